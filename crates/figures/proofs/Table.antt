@@ -1,0 +1,41 @@
+-- What a transform asks for, at the table of all 8,192 powers. Assumes nothing.
+use mathlib.Core.Path.{_≡_, refl, sym, _∙_, ap, subst}
+use mathlib.Core.List.{List}
+use Prim.Native.Nat.{ℕ, _*_}
+use lib.Dec.{T}
+use lib.ListN.{length}
+use Rattle.lending.proofs.Bad.{sound-residues}
+use Rattle.naive_residue.specs.Ready.{Ready}
+use Rattle.sums.proofs.Outputs.{length-dct2, length-dct4, dct2-residues, dct4-residues}
+use Rattle.sums.proofs.Powers.{powers-length, table-powers}
+use Rattle.sums.specs.Bad.{soundEntries}
+use Rattle.sums.specs.Residue.{Residues, powersTable}
+use Rattle.sums.specs.Transform.{dct2Sum, dct4Sum}
+
+module _ (parts unit : ℕ) {table : List ℕ} (is : table ≡ powersTable 8192) where
+  ready-of : (x out : List ℕ) → Residues x → length out ≡ length x → unit * (parts * length x) ≡ 8192 → Ready parts unit table x out
+  ready-of x out residues same whole =
+      record {
+        powers = table-powers 8192 table refl is;
+        residues = residues;
+        same = same;
+        whole = whole ∙ sym (ap length is ∙ powers-length 8192);
+      }
+
+  -- entries that are written out are tested by computing
+  pub ready : (x out : List ℕ) → T (soundEntries x) → length out ≡ length x → unit * (parts * length x) ≡ 8192
+      → Ready parts unit table x out
+  ready x out sound same whole = ready-of x out (sound-residues x sound) same whole
+
+  -- entries that another transform put out are residues
+  pub ready-after-dct2 : (y x out : List ℕ) → x ≡ dct2Sum y → length out ≡ length y → unit * (parts * length y) ≡ 8192
+      → Ready parts unit table x out
+  ready-after-dct2 y x out from same whole =
+      let size : length x ≡ length y = ap length from ∙ length-dct2 y in
+      ready-of x out (subst Residues (sym from) (dct2-residues y)) (same ∙ sym size) (ap (λ (n : ℕ). unit * (parts * n)) size ∙ whole)
+
+  pub ready-after-dct4 : (y x out : List ℕ) → x ≡ dct4Sum y → length out ≡ length y → unit * (parts * length y) ≡ 8192
+      → Ready parts unit table x out
+  ready-after-dct4 y x out from same whole =
+      let size : length x ≡ length y = ap length from ∙ length-dct4 y in
+      ready-of x out (subst Residues (sym from) (dct4-residues y)) (same ∙ sym size) (ap (λ (n : ℕ). unit * (parts * n)) size ∙ whole)

@@ -1,0 +1,5 @@
+pub mod Tests
+pub mod Sizes
+pub mod Lengths
+pub mod Bad
+pub mod Stores

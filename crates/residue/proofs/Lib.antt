@@ -1,0 +1,3 @@
+pub mod Reduce
+pub mod Opposite
+pub mod Shift

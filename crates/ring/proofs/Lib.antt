@@ -1,0 +1,13 @@
+pub mod Below
+pub mod Parity
+pub mod Table
+pub mod Filled
+pub mod Ring
+pub mod Solve
+pub mod Sum
+pub mod Sign
+pub mod Turn
+pub mod Stride
+pub mod Order
+pub mod Inverse
+pub mod Modular

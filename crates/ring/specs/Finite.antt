@@ -1,0 +1,24 @@
+-- Finite families given by a function of the index, which runs from 0: their sum, their list, and a test of them all.
+-- Over any type and any operation, so that whole numbers, residues and floats share them. Assumes nothing.
+use mathlib.Core.Bool.{Bool, true, false}
+use mathlib.Core.List.{List, [], _∷_}
+use Prim.Native.Nat.{ℕ, zero, suc}
+
+-- f 0 + f 1 + .. + f (n − 1), added up from the left, beginning with the nought
+unfoldable pub sumOf : {A : Type 0} → (A → A → A) → A → ℕ → (ℕ → A) → A
+sumOf add nought zero f = nought
+sumOf add nought (suc n) f = add (sumOf add nought n f) (f n)
+
+-- the list f 0, f 1, .., f (n − 1)
+unfoldable pub tab : {A : Type 0} → ℕ → (ℕ → A) → List A
+tab zero f = []
+tab (suc n) f = f zero ∷ tab n (λ k. f (suc k))
+
+abbrev pub both : Bool → Bool → Bool
+both true b = b
+both false b = false
+
+-- the test holds at 0, 1, .., n − 1
+unfoldable pub allBelow : ℕ → (ℕ → Bool) → Bool
+allBelow zero test = true
+allBelow (suc n) test = both (allBelow n test) (test n)

@@ -1,0 +1,67 @@
+-- The turn at each length n that goes into a quarter turn, 2048: document 01's angles a/(4n) of a turn are that turn's angles a.
+-- And sums of products as residues. Assumes nothing.
+use mathlib.Core.Path.{_≡_, sym, _∙_, ap}
+use Prim.Native.Nat.{ℕ, zero, suc, _+_, _*_, _-_, _^_, _/_, _<_, _≤_}
+use native.Mathlib.Nat as Nat
+use native.Mathlib.Omega.{arith}
+use lib.Pow.{pow-add}
+use Rattle.ring.proofs.Stride as Stride
+use Rattle.ring.proofs.Turn as Turn
+use Rattle.ring.proofs.Turn.{Turn}
+use Rattle.ring.proofs.Sum as Sum
+use Rattle.ring.proofs.Modular.{Residue, of, of-mul, of-sum}
+use Rattle.sums.specs.Residue.{p, half}
+use Rattle.sums.specs.Angle.{cosTurn, sinTurn}
+use Rattle.sums.specs.Transform.{sum}
+use Rattle.sums.proofs.Constants.{above, Zp, turn, turn-half}
+use Rattle.sums.proofs.Angles.{of-cos, of-sin}
+
+-- n goes into a quarter turn
+pub record Length (n : ℕ) : Type 0 where
+  pub step : ℕ
+  pub whole : step * n ≡ 2048
+
+pub power-length : (m : ℕ) → m ≤ 11 → Length (2 ^ m)
+power-length m h =
+    let e : 11 - m + m ≡ 11 = omega arith in
+    record { step = 2 ^ (11 - m); whole = sym (pow-add 2 (11 - m) m) ∙ ap (λ (x : ℕ). 2 ^ x) e }
+
+module _ (n : ℕ) (L : Length n) where
+  pub turnAt : Turn Zp n
+  turnAt = Stride.stride Zp (L .step) n 2048 (L .whole) turn
+
+  pub half-at : turnAt .half ≡ of p half
+  unfolding turnAt
+  half-at = Stride.stride-half Zp (L .step) n 2048 (L .whole) turn ∙ turn-half
+
+  step-is : 8192 / (4 * n) ≡ L .step
+  step-is =
+      let whole : 8192 ≡ L .step * (4 * n) = omega (arith, L .whole) in
+      Nat.div-eq-of-eq-mul-left (positive n (L .whole)) whole
+    where
+      positive : (n : ℕ) → L .step * n ≡ 2048 → 0 < 4 * n
+      positive zero e = absurd (Nat.suc-ne-zero 2047 (sym e ∙ Nat.mul-zero (L .step)))
+      positive (suc n) e = omega arith
+
+  unit : (a : ℕ) → L .step * a ≡ a * (8192 / (4 * n))
+  unit a = Nat.mul-comm (L .step) a ∙ ap (λ (x : ℕ). a * x) (sym step-is)
+
+  pub cos-at : (a : ℕ) → of p (cosTurn a (4 * n)) ≡ Turn.cs Zp n turnAt a
+  unfolding turnAt
+  cos-at a =
+      of-cos (a * (8192 / (4 * n)))
+      ∙ sym (Stride.cs-stride Zp (L .step) n 2048 (L .whole) turn a ∙ ap (Turn.cs Zp 2048 turn) (unit a))
+
+  pub sin-at : (a : ℕ) → of p (sinTurn a (4 * n)) ≡ Turn.sn Zp n turnAt a
+  unfolding turnAt
+  sin-at a =
+      of-sin (a * (8192 / (4 * n)))
+      ∙ sym (Stride.sn-stride Zp (L .step) n 2048 (L .whole) turn a ∙ ap (Turn.sn Zp 2048 turn) (unit a))
+
+-- a sum of products, term by term
+pub of-products : (n : ℕ) (x y : ℕ → ℕ) (v : ℕ → Residue p) → ((i : ℕ) → of p (y i) ≡ v i)
+    → of p (sum n (λ i. x i * y i)) ≡ Sum.sum Zp n (λ i. Zp .mul (of p (x i)) (v i))
+of-products n x y v e =
+    of-sum p above n (λ i. x i * y i)
+    ∙ Sum.sum-ext Zp n (λ i. of p (x i * y i)) (λ i. Zp .mul (of p (x i)) (v i))
+    (λ i l. of-mul p above (x i) (y i) ∙ ap (Zp .mul (of p (x i))) (e i))

@@ -1,0 +1,11 @@
+pub mod Constants
+pub mod Angles
+pub mod Powers
+pub mod Turns
+pub mod Terms
+pub mod Signed
+pub mod Lengths
+pub mod Outputs
+pub mod Inverse
+pub mod Windows
+pub mod Figures

@@ -1,0 +1,52 @@
+-- Lists of outputs: their lengths, that their entries are residues, and how they are known by the residues of their entries. Assumes nothing.
+use mathlib.Core.Path.{_≡_, sym, _∙_, ap, subst}
+use mathlib.Core.List.{List}
+use Prim.Native.Nat.{ℕ, _%_, _<_}
+use native.Mathlib.Nat as Nat
+use lib.ListN.{length}
+use Rattle.ring.proofs.Modular.{Residue, of, of-mod, mod-eq}
+use Rattle.ring.proofs.Table.{length-tab, getD-tab, tab-ext}
+use Rattle.sums.specs.Residue.{p, Residues}
+use Rattle.sums.specs.Transform.{entry, outputs, dct2Sum, dct4Sum}
+use Rattle.sums.proofs.Constants.{above}
+
+-- the entries of a list as residues
+abbrev pub residues : List ℕ → ℕ → Residue p
+residues x i = of p (entry x i)
+
+pub length-dct2 : (x : List ℕ) → length (dct2Sum x) ≡ length x
+unfolding dct2Sum
+length-dct2 x = length-tab (length x) _
+
+-- an entry of a list of outputs, as a residue
+pub of-output : (n : ℕ) (f : ℕ → ℕ) (k : ℕ) → k < n → of p (entry (outputs n f) k) ≡ of p (f k)
+of-output n f k l = ap (of p) (getD-tab n (λ i. f i % p) k 0 l) ∙ of-mod p (f k)
+
+pub length-dct4 : (x : List ℕ) → length (dct4Sum x) ≡ length x
+unfolding dct4Sum
+length-dct4 x = length-tab (length x) _
+
+-- outputs are reduced
+pub outputs-residues : (n : ℕ) (f : ℕ → ℕ) → Residues (outputs n f)
+outputs-residues n f =
+    record {
+      below = λ k l.
+          subst (λ (v : ℕ). v < p) (sym (getD-tab n (λ i. f i % p) k 0 (subst (λ (m : ℕ). k < m) (length-tab n (λ i. f i % p)) l)))
+          (Nat.mod-lt (f k) above);
+    }
+
+pub dct2-residues : (x : List ℕ) → Residues (dct2Sum x)
+unfolding dct2Sum
+dct2-residues x = outputs-residues (length x) _
+
+pub dct4-residues : (x : List ℕ) → Residues (dct4Sum x)
+unfolding dct4Sum
+dct4-residues x = outputs-residues (length x) _
+
+-- a list of outputs is known by the residues of its entries
+pub outputs-only : (z : List ℕ) (n : ℕ) (f h : ℕ → ℕ) → z ≡ outputs n f → ((k : ℕ) → k < n → of p (entry z k) ≡ of p (h k))
+    → z ≡ outputs n h
+outputs-only z n f h e same =
+    e
+    ∙ tab-ext n
+    (λ k l. mod-eq p (f k) (h k) (sym (of-output n f k l) ∙ ap (λ (y : List ℕ). of p (entry y k)) (sym e) ∙ same k l))

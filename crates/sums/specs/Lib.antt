@@ -1,0 +1,10 @@
+pub mod Residue
+pub mod Signed
+pub mod Angle
+pub mod Transform
+pub mod Window
+pub mod Size
+pub mod Lengths
+pub mod Bad
+pub mod Call
+pub mod Figure
