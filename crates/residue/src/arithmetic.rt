@@ -1,5 +1,5 @@
 // The arithmetic of residues. Each function takes residues and gives the one residue that its promise names.
-// A sum or a difference is compared and corrected: the product alone is divided by p.
+// A sum or a difference is compared and corrected: products alone are reduced.
 ghost use mathlib.Core.Path.{_≡_};
 ghost use Prim.Native.Nat.{_+_, _*_, _%_, _<_};
 ghost use Rattle.sums.specs.Residue.{p, half, minusOne};
@@ -31,19 +31,26 @@ pub fn negate(a: u32) -> u32
     if a == 0 { 0 } else { 998244353 - a }
 }
 
+// The one place where a number is divided by p: every product comes here.
+pub fn reduce(x: u64) -> u32
+    ensures { λ r. ⌜ r ≡ x % p ⌝ }
+{
+    (x % 998244353) as u32
+}
+
 pub fn times(a: u32, b: u32) -> u32
     requires { ⌜ (a < p) × (b < p) ⌝ }
     ensures { λ r. ⌜ r ≡ a * b % p ⌝ }
 {
-    ((a as u64) * (b as u64) % 998244353) as u32
+    reduce((a as u64) * (b as u64))
 }
 
-// One term more of a sum of products, with one division for the product and the sum.
+// One term more of a sum of products, with one reduction for the product and the sum.
 pub fn times_plus(sum: u32, a: u32, b: u32) -> u32
     requires { ⌜ (sum < p) × ((a < p) × (b < p)) ⌝ }
     ensures { λ r. ⌜ r ≡ (sum + a * b) % p ⌝ }
 {
-    ((sum as u64 + (a as u64) * (b as u64)) % 998244353) as u32
+    reduce(sum as u64 + (a as u64) * (b as u64))
 }
 
 pub fn double(a: u32) -> u32

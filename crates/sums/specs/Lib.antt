@@ -8,3 +8,4 @@ pub mod Lengths
 pub mod Bad
 pub mod Call
 pub mod Figure
+pub mod Example

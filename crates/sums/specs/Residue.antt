@@ -48,7 +48,7 @@ pub record Residues (x : List ℕ) : Type 0 where
 unfoldable pub powersTable : ℕ → List ℕ
 powersTable n = tab n (λ k. g ^ (k * (8192 / n)) % p)
 
--- a lent table of powers: as many entries as its length says, which divides the turn
+-- a lent table of powers of g, whose length divides the turn
 pub record Powers (t : List ℕ) : Type 0 where
   pub whole : 8192 / length t * length t ≡ 8192
   pub rule : t ≡ powersTable (length t)

@@ -11,12 +11,12 @@ oneOf [] n = false
 oneOf (entry ∷ rest) n = eqb n entry || oneOf rest n
 
 -- 1, 2, 4, .., 1024
-unfoldable pub powers : List ℕ
-powers = tab 11 (λ k. 2 ^ k)
+unfoldable pub powersOfTwo : List ℕ
+powersOfTwo = tab 11 (λ k. 2 ^ k)
 
 -- n is one of these
 unfoldable pub powerOfTwo : ℕ → Bool
-powerOfTwo n = oneOf powers n
+powerOfTwo n = oneOf powersOfTwo n
 
 -- a power of two, 1 to 1024 for types 2 and 3, where least is 1, and 2 to 1024 for type 4 and the MDCT, where it is 2
 unfoldable pub allowedSize : ℕ → ℕ → Bool

@@ -3,7 +3,7 @@ use mathlib.Core.Path.{_≡_, sym, _∙_, ap, subst}
 use mathlib.Core.Bool.{true, false}
 use mathlib.Core.List.{List}
 use Prim.Native.Nat.{ℕ, _+_, _*_, _-_, _%_, _^_, _<_, _≤_}
-use native.Mathlib.Nat.{mul-le-mul, le-of-lt}
+use native.Mathlib.Nat.{mul-le-mul}
 use native.Mathlib.Omega.{arith}
 use lib.Dec.{T, eqb→eq}
 use lib.ListN.{length, getD}
@@ -47,12 +47,9 @@ module _ (N : ℕ) (w : List ℕ) where
       let end : i ≡ N = omega arith in
       true-is (unitPower N w) (subst (λ (n : ℕ). T (allBelow n (powerTwo N w))) end before)
 
--- squares of residues are small
-pub square-below : (a : ℕ) → a < p → a * a ≤ p * p
-square-below a l = mul-le-mul (le-of-lt l) (le-of-lt l)
-
-pub power-fits : (n s : ℕ) → n ≤ 1024 → n * (s % p) < 2 ^ 64
-power-fits n s small = omega (arith, mul-le-mul small (le-of-lt (reduced s)))
+-- n times a reduced number r fits a u64
+pub power-fits : (n r x : ℕ) → n ≤ 1024 → r ≡ x % p → n * r < 2 ^ 64
+power-fits n r x small is = omega (arith, mul-le-mul small below)
   where
-    reduced : (s : ℕ) → s % p < p
-    reduced s = omega arith
+    below : r ≤ p
+    below = omega (arith, is)

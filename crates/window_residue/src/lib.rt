@@ -8,6 +8,7 @@ ghost use Rattle.sums.specs.Window.{symmetricWindow, unitPower, acceptedWindow}
 ghost use Rattle.sums.specs.Call.{windowAnswer};
 use answers::Answer;
 use answers::Refusal;
+use residue::arithmetic::reduce;
 
 // Read backwards it is the same.
 fn symmetric(window: &[u32], n: usize) -> bool
@@ -26,12 +27,12 @@ fn symmetric(window: &[u32], n: usize) -> bool
 }
 
 // n times the sum of two squares, modulo p. The squares of two residues fit one reduction.
-fn power(n: usize, a: u32, b: u32) -> u64
+fn power(n: usize, a: u32, b: u32) -> u32
     requires { ⌜ (n ≤ 1024) × (a < p) × (b < p) ⌝ }
     ensures { λ r. ⌜ r ≡ n * (a * a + b * b) % p ⌝ }
 {
-    let squares = (a as u64) * (a as u64) + (b as u64) * (b as u64);
-    (n as u64) * (squares % 998244353) % 998244353
+    let squares = reduce((a as u64) * (a as u64) + (b as u64) * (b as u64));
+    reduce((n as u64) * (squares as u64))
 }
 
 // Each entry and the one that overlaps it carry the power 2 between them.

@@ -1,18 +1,18 @@
--- `lending::allowed_size` meets its contract: n is one of the powers exactly in the arm that lists them. The check reads the
+-- `lending::allowed_size` meets its contract: n is one of the powersOfTwo exactly in the arm that lists them. The check reads the
 -- neighbours 1 and 2 of that list as a range, so n may come to the arm by two ways, and to the other by two. Assumes nothing.
 use mathlib.Core.Logic.{inl, inr, ⊎-elim}
 use mathlib.Core.Path.{sym}
 use native.Mathlib.Nat.{eq-or-lt-of-le}
 use native.Mathlib.Omega.{arith}
 use Rattle.ring.specs.Finite.{tab}
-use Rattle.sums.specs.Size.{powers}
+use Rattle.sums.specs.Size.{powersOfTwo}
 use Rattle.lending.proofs.Sizes.{listed-allowed, unlisted-refused, nought-refused}
 use Rattle.lending.proofs.allowed_size.Statement.{statement}
 use Rattle.lending.proofs.allowed_size.Tie as tie
 
 -- n is one of the list
 returns-3 : tie.Need-returns-3
-unfolding powers tab
+unfolding powersOfTwo tab
 returns-3 c =
     let a = c .before .args in
     listed-allowed (a .least) (a .n)
@@ -26,7 +26,7 @@ returns c = nought-refused (c .before .before .args .least) (c .before .before .
 
 -- n is above 2, and none of the list
 returns-2 : tie.Need-returns-2
-unfolding powers tab
+unfolding powersOfTwo tab
 returns-2 c =
     let a = c .before .before .before .args in
     unlisted-refused (a .least) (a .n)

@@ -8,15 +8,15 @@ use Rattle.figures.proofs.transform.constants.Tie as tie
 
 dct2-requires : tie.Need-dct2-requires
 unfolding soundEntries firstBad
-dct2-requires c κs = ready 4 1024 (c .before .before .before .pre) _ _ tt refl refl
+dct2-requires c κs = ready 4 1024 (search) _ _ tt refl refl
 
 dct2-requires-2 : tie.Need-dct2-requires-2
 unfolding soundEntries firstBad
-dct2-requires-2 c κs = ready 4 512 (c .before .before .before .before .before .before .before .before .before .pre) _ _ tt refl refl
+dct2-requires-2 c κs = ready 4 512 (search) _ _ tt refl refl
 
 dct3-requires : tie.Need-dct3-requires
 unfolding soundEntries firstBad
-dct3-requires c κs = ready 4 512 (c .before .before .before .before .before .before .before .before .before .before .before .before .before .before .before .pre) _ _ tt (c .before .before .before .before .before .dct22 .kept .1 .1 .1 .0) refl
+dct3-requires c κs = ready 4 512 (search) _ _ tt (c .before .before .before .before .before .dct22 .kept .1 .1 .1 .0) refl
 
 pub constants-spec : {M : Type 1} → statement M
 constants-spec =

@@ -8,11 +8,11 @@ use Rattle.figures.proofs.transform.one_entry.Tie as tie
 
 dct2-requires : tie.Need-dct2-requires
 unfolding soundEntries firstBad
-dct2-requires c κs = ready 4 2048 (c .before .before .before .pre) _ _ tt refl refl
+dct2-requires c κs = ready 4 2048 (search) _ _ tt refl refl
 
 dct3-requires : tie.Need-dct3-requires
 unfolding soundEntries firstBad
-dct3-requires c κs = ready 4 2048 (c .before .before .before .before .before .before .before .before .before .pre) _ _ tt (c .before .before .before .before .before .dct2 .kept .1 .1 .1 .0) refl
+dct3-requires c κs = ready 4 2048 (search) _ _ tt (c .before .before .before .before .before .dct2 .kept .1 .1 .1 .0) refl
 
 pub one-entry-spec : {M : Type 1} → statement M
 one-entry-spec =

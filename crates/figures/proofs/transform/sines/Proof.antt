@@ -8,11 +8,11 @@ use Rattle.figures.proofs.transform.sines.Tie as tie
 
 dst2-requires : tie.Need-dst2-requires
 unfolding soundEntries firstBad
-dst2-requires c κs = ready 4 1024 (c .before .before .before .pre) _ _ tt refl refl
+dst2-requires c κs = ready 4 1024 (search) _ _ tt refl refl
 
 dst3-requires : tie.Need-dst3-requires
 unfolding soundEntries firstBad
-dst3-requires c κs = ready 4 1024 (c .before .before .before .before .before .before .before .before .before .pre) _ _ tt (c .before .before .before .before .before .dst2 .kept .1 .1 .1 .0) refl
+dst3-requires c κs = ready 4 1024 (search) _ _ tt (c .before .before .before .before .before .dst2 .kept .1 .1 .1 .0) refl
 
 pub sines-spec : {M : Type 1} → statement M
 sines-spec =

@@ -8,10 +8,10 @@ use Rattle.figures.proofs.transform.type_3_after_type_2.Tie as tie
 
 dct2-requires : tie.Need-dct2-requires
 unfolding soundEntries firstBad
-dct2-requires c κs = ready 4 512 (c .before .before .before .pre) _ _ tt refl refl
+dct2-requires c κs = ready 4 512 (search) _ _ tt refl refl
 
 dct3-requires : tie.Need-dct3-requires
-dct3-requires c κs = ready-after-dct2 4 512 (c .before .before .before .before .before .before .before .pre) _ _ _ (c .before .before .before .dct2 .ensures) refl refl
+dct3-requires c κs = ready-after-dct2 4 512 (search) _ _ _ (c .before .before .before .dct2 .ensures) refl refl
 
 pub type-3-after-type-2-spec : {M : Type 1} → statement M
 type-3-after-type-2-spec =

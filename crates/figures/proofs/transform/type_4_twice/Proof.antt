@@ -8,17 +8,17 @@ use Rattle.figures.proofs.transform.type_4_twice.Tie as tie
 
 dct4-requires : tie.Need-dct4-requires
 unfolding soundEntries firstBad
-dct4-requires c κs = ready 8 256 (c .before .before .before .pre) _ _ tt refl refl
+dct4-requires c κs = ready 8 256 (search) _ _ tt refl refl
 
 dct4-requires-2 : tie.Need-dct4-requires-2
-dct4-requires-2 c κs = ready-after-dct4 8 256 (c .before .before .before .before .before .before .before .pre) _ _ _ (c .before .before .before .dct4 .ensures) refl refl
+dct4-requires-2 c κs = ready-after-dct4 8 256 (search) _ _ _ (c .before .before .before .dct4 .ensures) refl refl
 
 dct4-requires-3 : tie.Need-dct4-requires-3
 unfolding soundEntries firstBad
-dct4-requires-3 c κs = ready 8 512 (c .before .before .before .before .before .before .before .before .before .before .before .before .before .pre) _ _ tt refl refl
+dct4-requires-3 c κs = ready 8 512 (search) _ _ tt refl refl
 
 dct4-requires-4 : tie.Need-dct4-requires-4
-dct4-requires-4 c κs = ready-after-dct4 8 512 (c .before .before .before .before .before .before .before .before .before .before .before .before .before .before .before .before .before .pre) _ _ _ (c .before .before .before .dct43 .ensures) refl refl
+dct4-requires-4 c κs = ready-after-dct4 8 512 (search) _ _ _ (c .before .before .before .dct43 .ensures) refl refl
 
 pub type-4-twice-spec : {M : Type 1} → statement M
 type-4-twice-spec =
