@@ -1,16 +1,19 @@
--- What a transform asks for, at the table of all 8,192 powers. Assumes nothing.
+-- What a transform asks for, at the table of all 8,192 powers; and each of the twelve figures, taken from their one list. Assumes nothing.
 use mathlib.Core.Path.{_≡_, refl, sym, _∙_, ap, subst}
-use mathlib.Core.List.{List}
+use mathlib.Core.List.{List, []}
 use Prim.Native.Nat.{ℕ, _*_}
 use lib.Dec.{T}
-use lib.ListN.{length}
+use lib.ListN.{length, getD}
 use Rattle.lending.proofs.Bad.{sound-residues}
 use Rattle.naive_residue.specs.Ready.{Ready}
+use Rattle.sums.proofs.Figures.{the-twelve}
 use Rattle.sums.proofs.Outputs.{length-dct2, length-dct4, dct2-residues, dct4-residues}
 use Rattle.sums.proofs.Powers.{powers-length, table-powers}
 use Rattle.sums.specs.Bad.{soundEntries}
+use Rattle.sums.specs.Figure.{computedFigures}
 use Rattle.sums.specs.Residue.{Residues, powersTable}
 use Rattle.sums.specs.Transform.{dct2Sum, dct4Sum}
+use Rattle.figures.specs.Stated.{stated}
 
 module _ (parts unit : ℕ) {table : List ℕ} (is : table ≡ powersTable 8192) where
   ready-of : (x out : List ℕ) → Residues x → length out ≡ length x → unit * (parts * length x) ≡ 8192 → Ready parts unit table x out
@@ -39,3 +42,6 @@ module _ (parts unit : ℕ) {table : List ℕ} (is : table ≡ powersTable 8192)
   ready-after-dct4 y x out from same whole =
       let size : length x ≡ length y = ap length from ∙ length-dct4 y in
       ready-of x out (subst Residues (sym from) (dct4-residues y)) (same ∙ sym size) (ap (λ (n : ℕ). unit * (parts * n)) size ∙ whole)
+
+pub figure-is : (place : ℕ) → getD computedFigures place [] ≡ stated place
+figure-is place = ap (λ (list : List (List ℕ)). getD list place []) the-twelve

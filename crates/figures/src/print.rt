@@ -1,7 +1,7 @@
 // A figure as a line of text: its letter and its numbers.
 use libc::STDOUT_FILENO;
 
-pub fn figure(letter: u8, values: &[u32]) {
+pub fn line(letter: u8, values: &[u32]) {
     byte(b'(');
     byte(letter);
     byte(b')');

@@ -1,0 +1,17 @@
+-- `figures::figure::e` meets its contract: its entries are residues, and the sum is a figure of the one list. Assumes nothing.
+use mathlib.Core.Path.{refl, _∙_}
+use borrow.Author.Needs.{needs}
+use Rattle.sums.specs.Bad.{firstBad, soundEntries}
+use Rattle.figures.proofs.Table.{ready, figure-is}
+use Rattle.figures.proofs.figure.e.Statement.{statement}
+use Rattle.figures.proofs.figure.e.Tie as tie
+
+dct3-requires : tie.Need-dct3-requires
+unfolding soundEntries firstBad
+dct3-requires c κs = ready 4 512 (search) _ _ tt refl refl
+
+returns : tie.Need-returns
+returns c = c .before .dct3 .ensures ∙ figure-is 4
+
+pub e-spec : {M : Type 1} → statement M
+e-spec = tie.close (tie.spec (λ c. search needs) (λ c. search needs) dct3-requires returns)
