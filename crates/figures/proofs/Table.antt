@@ -15,6 +15,11 @@ use Rattle.sums.specs.Residue.{Residues, powersTable}
 use Rattle.sums.specs.Transform.{dct2Sum, dct4Sum}
 use Rattle.figures.specs.Stated.{stated}
 
+-- x is what a transform put out of y: residues, and as many
+pub record PutOut (y x : List ℕ) : Type 0 where
+  pub residues : Residues x
+  pub size : length x ≡ length y
+
 module _ (parts unit : ℕ) {table : List ℕ} (is : table ≡ powersTable 8192) where
   ready-of : (x out : List ℕ) → Residues x → length out ≡ length x → unit * (parts * length x) ≡ 8192 → Ready parts unit table x out
   ready-of x out residues same whole =
@@ -30,18 +35,17 @@ module _ (parts unit : ℕ) {table : List ℕ} (is : table ≡ powersTable 8192)
       → Ready parts unit table x out
   ready x out sound same whole = ready-of x out (sound-residues x sound) same whole
 
-  -- entries that another transform put out are residues
-  pub ready-after-dct2 : (y x out : List ℕ) → x ≡ dct2Sum y → length out ≡ length y → unit * (parts * length y) ≡ 8192
+  pub ready-after : {y : List ℕ} (x out : List ℕ) → PutOut y x → length out ≡ length y → unit * (parts * length y) ≡ 8192
       → Ready parts unit table x out
-  ready-after-dct2 y x out from same whole =
-      let size : length x ≡ length y = ap length from ∙ length-dct2 y in
-      ready-of x out (subst Residues (sym from) (dct2-residues y)) (same ∙ sym size) (ap (λ (n : ℕ). unit * (parts * n)) size ∙ whole)
+  ready-after x out made same whole =
+      ready-of x out (made .residues) (same ∙ sym (made .size)) (ap (λ (n : ℕ). unit * (parts * n)) (made .size) ∙ whole)
 
-  pub ready-after-dct4 : (y x out : List ℕ) → x ≡ dct4Sum y → length out ≡ length y → unit * (parts * length y) ≡ 8192
-      → Ready parts unit table x out
-  ready-after-dct4 y x out from same whole =
-      let size : length x ≡ length y = ap length from ∙ length-dct4 y in
-      ready-of x out (subst Residues (sym from) (dct4-residues y)) (same ∙ sym size) (ap (λ (n : ℕ). unit * (parts * n)) size ∙ whole)
+module _ (y : List ℕ) {x : List ℕ} where
+  pub after-dct2 : x ≡ dct2Sum y → PutOut y x
+  after-dct2 from = record { residues = subst Residues (sym from) (dct2-residues y); size = ap length from ∙ length-dct2 y }
+
+  pub after-dct4 : x ≡ dct4Sum y → PutOut y x
+  after-dct4 from = record { residues = subst Residues (sym from) (dct4-residues y); size = ap length from ∙ length-dct4 y }
 
 pub figure-is : (place : ℕ) → getD computedFigures place [] ≡ stated place
 figure-is place = ap (λ (list : List (List ℕ)). getD list place []) the-twelve

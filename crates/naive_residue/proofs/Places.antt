@@ -9,7 +9,7 @@ use lib.ListN.{length}
 use Rattle.sums.specs.Residue.{p}
 use Rattle.sums.specs.Transform.{entry}
 use Rattle.sums.proofs.Turns.{turn-positive, cos-whole-turns}
-use Rattle.sums.proofs.Terms.{sum-same}
+use Rattle.ring.proofs.Terms.{terms-ext}
 use Rattle.naive_residue.specs.AngleSums.{angleSum}
 
 -- what is not past the end stays, and what is past it by less than a turn loses one
@@ -41,7 +41,7 @@ pub angle-sum-turns : (n : ℕ) → 8192 / n * n ≡ 8192 → (x : List ℕ) (fi
 unfolding angleSum
 angle-sum-turns n whole x first step =
     ap (λ (s : ℕ). s % p)
-    (sum-same (length x)
+    (terms-ext _+_ 0 (length x)
     (λ i below. ap (λ (c : ℕ). entry x i * c) (sym (cos-whole-turns n whole _ (first + i * step) (first / n + i * (step / n)) (parts i)))))
   where
     regroup : (a b q r n i : ℕ) → a + n * q + i * (b + n * r) ≡ a + i * b + n * (q + i * r)

@@ -2,9 +2,10 @@
 -- And how it makes up what a list of angle sums asks for. Assumes nothing.
 use mathlib.Core.Path.{_≡_}
 use mathlib.Core.List.{List}
-use Prim.Native.Nat.{ℕ, zero, suc, _*_, _<_, _≤_}
+use Prim.Native.Nat.{ℕ, _*_, _<_, _≤_}
 use native.Mathlib.Omega.{arith}
 use lib.ListN.{length}
+use Rattle.ring.proofs.Factor.{factor-positive, factor-bound}
 use Rattle.sums.proofs.Turns.{turn-positive, turn-bound}
 use Rattle.sums.specs.Residue.{Residues}
 use Rattle.naive_residue.specs.Ready.{Ready, SumsReady}
@@ -17,25 +18,17 @@ pub record Room (parts unit entries n : ℕ) : Type 0 where
 
 pub room : {parts unit : ℕ} {table x out : List ℕ} → Ready parts unit table x out → Room parts unit (length x) (length table)
 room {parts} {unit} {table} {x} ready =
-    let positive : 0 < length table = turn-positive (length table) (ready .powers .whole) in
+    let n = length table in
+    let positive : 0 < n = turn-positive n (ready .powers .whole) in
+    let by-entries : unit * parts * length x ≡ n = omega (arith, ready .whole) in
+    let by-unit : parts * length x * unit ≡ n = omega (arith, ready .whole) in
+    let by-parts : length x * (parts * unit) ≡ n = omega (arith, ready .whole) in
     record {
-      some = entry parts unit (length x) (length table) (ready .whole) positive;
-      more = first parts unit (length x) (length table) (ready .whole) positive;
-      fits = within parts unit (length x) (length table) (ready .whole) positive;
-      bound = turn-bound (length table) (ready .powers .whole);
+      some = factor-positive (unit * parts) (length x) n by-entries positive;
+      more = factor-positive (parts * length x) unit n by-unit positive;
+      fits = factor-bound (length x) (parts * unit) n by-parts positive;
+      bound = turn-bound n (ready .powers .whole);
     }
-  where
-    entry : (parts unit entries n : ℕ) → unit * (parts * entries) ≡ n → 0 < n → 0 < entries
-    entry parts unit zero n e positive = omega arith
-    entry parts unit (suc entries) n e positive = omega arith
-
-    first : (parts unit entries n : ℕ) → unit * (parts * entries) ≡ n → 0 < n → 0 < unit
-    first parts zero entries n e positive = omega arith
-    first parts (suc unit) entries n e positive = omega arith
-
-    within : (parts unit entries n : ℕ) → unit * (parts * entries) ≡ n → 0 < n → parts * unit ≤ n
-    within parts unit zero n e positive = omega arith
-    within parts unit (suc entries) n e positive = omega arith
 
 pub sums-ready : {parts unit : ℕ} {table x out part : List ℕ} {first firstMore step stepMore : ℕ} → Ready parts unit table x out → Residues part
     → first < length table → firstMore < length table → step < length table → stepMore < length table

@@ -9,7 +9,8 @@ use Rattle.sums.specs.Residue.{p}
 use Rattle.sums.specs.Angle.{cosTurn}
 use Rattle.sums.specs.Transform.{sum, entry}
 use Rattle.sums.proofs.Turns.{cos-remainder}
-use Rattle.sums.proofs.Terms.{sum-none, sum-onward}
+use Rattle.ring.proofs.Terms.{terms-none}
+use Rattle.sums.proofs.Terms.{sum-onward}
 use Rattle.naive_residue.specs.AngleSums.{angleSum}
 use Rattle.naive_residue.specs.Ready.{SumReady}
 use Rattle.naive_residue.proofs.Places.{place-below, place-first, place-onward}
@@ -28,7 +29,7 @@ module _ {table x : List ℕ} {first step : ℕ} (ready : SumReady table x first
   summed-none = record {
     within = omega arith;
     place = place-first (length table) first step (ready .first-below);
-    total = ap (λ (a : ℕ). a % p) (sym (sum-none (term table x first step)));
+    total = ap (λ (a : ℕ). a % p) (sym (terms-none _+_ 0 (term table x first step)));
   }
 
   module _ {i at held : ℕ} (s : Summed table x first step i at held) where

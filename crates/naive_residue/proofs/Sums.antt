@@ -12,7 +12,7 @@ use Rattle.sums.specs.Residue.{p, half}
 use Rattle.sums.specs.Angle.{cosTurn, sinTurn}
 use Rattle.sums.specs.Transform.{sum, entry, dct2Sum, dst2Sum, dct3Sum, dst3Sum, dct4Sum}
 use Rattle.sums.proofs.Turns.{cos-units, sin-units, sin-at}
-use Rattle.sums.proofs.Terms.{sum-same}
+use Rattle.ring.proofs.Terms.{terms-ext}
 use Rattle.naive_residue.specs.AngleSums.{angleSum, angleSums}
 use Rattle.naive_residue.specs.Ready.{Ready}
 use Rattle.naive_residue.specs.Added.{addedToEach, addedAlternately}
@@ -22,7 +22,7 @@ use Rattle.naive_residue.proofs.Parts.{OneLess}
 angle-sum-is : (n : ℕ) (x : List ℕ) (first step : ℕ) {m : ℕ} (f : ℕ → ℕ) → length x ≡ m
     → ((i : ℕ) → i < length x → entry x i * cosTurn (first + i * step) n ≡ f i) → angleSum n x first step ≡ sum m f % p
 unfolding angleSum
-angle-sum-is n x first step f whole terms = ap (λ (s : ℕ). s % p) (sum-same (length x) terms) ∙ ap (λ (k : ℕ). sum k f % p) whole
+angle-sum-is n x first step f whole terms = ap (λ (s : ℕ). s % p) (terms-ext _+_ 0 (length x) terms) ∙ ap (λ (k : ℕ). sum k f % p) whole
 
 -- what a reduced value adds to a reduced sum, and a multiple of it
 more : (a b : ℕ) {h : ℕ} → h ≡ b % p → (a % p + h) % p ≡ (b + a) % p

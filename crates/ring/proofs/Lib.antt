@@ -1,9 +1,11 @@
 pub mod Below
 pub mod Parity
+pub mod Factor
 pub mod Table
 pub mod Filled
 pub mod Ring
 pub mod Solve
+pub mod Terms
 pub mod Sum
 pub mod Sign
 pub mod Turn

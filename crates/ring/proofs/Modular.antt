@@ -156,7 +156,7 @@ module _ (M : ℕ) where
     of-sum zero f = of-zero
     of-sum (suc n) f = of-add (sumOf _+_ 0 n f) (f n) ∙ ap (λ (x : Residue M). modular .add x (of (f n))) (of-sum n f)
 
-    -- what a number above it makes up to a multiple of M is its negative
+    -- what adds up with m to a multiple of M is the negative of m
     pub of-neg : (m n : ℕ) → (m + n) % M ≡ 0 → of n ≡ modular .neg (of m)
     of-neg m n e =
         Ring.neg-only modular (of m) (of n)

@@ -8,6 +8,7 @@ use Prim.Native.Nat.{ℕ, zero, suc, _+_, _-_, _<_}
 use native.Mathlib.Nat as Nat
 use native.Mathlib.Omega.{arith}
 use Rattle.ring.specs.Finite.{sumOf}
+use Rattle.ring.proofs.Terms.{terms-none, terms-suc, terms-ext}
 use Rattle.ring.proofs.Ring as Ring
 use Rattle.ring.proofs.Ring.{Ring}
 
@@ -21,17 +22,13 @@ module _ {C : Type 0} (R : Ring C) where
   sum = sumOf (R .add) (R .nought)
 
   pub sum-zero : (f : ℕ → C) → sum 0 f ≡ 𝟘
-  unfolding sumOf
-  sum-zero f = refl
+  sum-zero = terms-none (R .add) (R .nought)
 
   pub sum-suc : (n : ℕ) (f : ℕ → C) → sum (suc n) f ≡ sum n f ⊕ f n
-  unfolding sumOf
-  sum-suc n f = refl
+  sum-suc = terms-suc (R .add) (R .nought)
 
   pub sum-ext : (n : ℕ) (f h : ℕ → C) → ((i : ℕ) → i < n → f i ≡ h i) → sum n f ≡ sum n h
-  unfolding sumOf
-  sum-ext zero f h e = refl
-  sum-ext (suc n) f h e = ap₂ _⊕_ (sum-ext n f h (λ i l. e i (omega arith))) (e n (omega arith))
+  sum-ext n f h e = terms-ext (R .add) (R .nought) n e
 
   pub sum-nought : (n : ℕ) (f : ℕ → C) → ((i : ℕ) → i < n → f i ≡ 𝟘) → sum n f ≡ 𝟘
   unfolding sumOf

@@ -1,10 +1,11 @@
 -- The turn at each length n that goes into a quarter turn, 2048: document 01's angles a/(4n) of a turn are that turn's angles a.
 -- And sums of products as residues. Assumes nothing.
 use mathlib.Core.Path.{_≡_, sym, _∙_, ap}
-use Prim.Native.Nat.{ℕ, zero, suc, _+_, _*_, _-_, _^_, _/_, _<_, _≤_}
+use Prim.Native.Nat.{ℕ, _+_, _*_, _-_, _^_, _/_, _≤_}
 use native.Mathlib.Nat as Nat
 use native.Mathlib.Omega.{arith}
 use lib.Pow.{pow-add}
+use Rattle.ring.proofs.Factor.{factor-positive}
 use Rattle.ring.proofs.Stride as Stride
 use Rattle.ring.proofs.Turn as Turn
 use Rattle.ring.proofs.Turn.{Turn}
@@ -36,12 +37,8 @@ module _ (n : ℕ) (L : Length n) where
 
   step-is : 8192 / (4 * n) ≡ L .step
   step-is =
-      let whole : 8192 ≡ L .step * (4 * n) = omega (arith, L .whole) in
-      Nat.div-eq-of-eq-mul-left (positive n (L .whole)) whole
-    where
-      positive : (n : ℕ) → L .step * n ≡ 2048 → 0 < 4 * n
-      positive zero e = absurd (Nat.suc-ne-zero 2047 (sym e ∙ Nat.mul-zero (L .step)))
-      positive (suc n) e = omega arith
+      let whole : L .step * (4 * n) ≡ 8192 = omega (arith, L .whole) in
+      Nat.div-eq-of-eq-mul-left (factor-positive (L .step) (4 * n) 8192 whole (omega arith)) (sym whole)
 
   unit : (a : ℕ) → L .step * a ≡ a * (8192 / (4 * n))
   unit a = Nat.mul-comm (L .step) a ∙ ap (λ (x : ℕ). a * x) (sym step-is)

@@ -3,28 +3,20 @@
 -- An angle a/d of a turn is a times as many entries as 1/d of a turn has (cos-units, sin-units).
 -- At odd quarters of a turn the sine is 1 and −1 by turns (sin-even-quarter, sin-odd-quarter). Assumes nothing.
 use mathlib.Core.Path.{_≡_, sym, _∙_, ap, ap₂}
-use Prim.Native.Nat.{ℕ, zero, suc, _+_, _*_, _%_, _/_, _<_, _≤_}
+use Prim.Native.Nat.{ℕ, _+_, _*_, _%_, _/_, _<_, _≤_}
 use native.Mathlib.Nat as Nat
 use native.Mathlib.Omega.{arith}
+use Rattle.ring.proofs.Factor.{factor-positive, factor-bound}
 use Rattle.sums.specs.Residue.{p, half, minusOne, g, g⁻¹}
 use Rattle.sums.specs.Angle.{cosOf, sinOf, cosTurn, sinTurn}
 use Rattle.sums.proofs.Angles.{cos-turn, sin-turn, sin-half-turn, sin-quarter-more, sin-is-cos}
 
--- a number that goes into the turn s times
-positive : (s n : ℕ) → s * n ≡ 8192 → 0 < n
-positive s zero e = omega arith
-positive s (suc n) e = omega arith
-
-bound : (s n : ℕ) → s * n ≡ 8192 → n ≤ 8192
-bound zero n e = omega arith
-bound (suc s) n e = omega arith
-
 module _ (n : ℕ) (whole : 8192 / n * n ≡ 8192) where
   pub turn-positive : 0 < n
-  turn-positive = positive (8192 / n) n whole
+  turn-positive = factor-positive (8192 / n) n 8192 whole (omega arith)
 
   pub turn-bound : n ≤ 8192
-  turn-bound = bound (8192 / n) n whole
+  turn-bound = factor-bound (8192 / n) n 8192 whole (omega arith)
 
   -- b is a and t whole turns
   pub cos-whole-turns : (a b t : ℕ) → b ≡ a + n * t → cosTurn b n ≡ cosTurn a n
@@ -51,7 +43,7 @@ module _ (n : ℕ) (whole : 8192 / n * n ≡ 8192) where
   -- 1/d of a turn is unit entries
   module _ (unit d : ℕ) (parts : unit * d ≡ n) where
     unit-is : 8192 / d ≡ unit * (8192 / n)
-    unit-is = Nat.div-eq-of-eq-mul-left (positive (unit * (8192 / n)) d turn) (sym turn)
+    unit-is = Nat.div-eq-of-eq-mul-left (factor-positive (unit * (8192 / n)) d 8192 turn (omega arith)) (sym turn)
       where
         regroup : (u s d : ℕ) → u * s * d ≡ s * (u * d)
         regroup u s d = omega arith

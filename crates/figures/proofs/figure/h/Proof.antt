@@ -4,7 +4,7 @@ use mathlib.Core.Path.{refl, _∙_, ap}
 use borrow.Author.Needs.{needs}
 use Rattle.sums.specs.Bad.{firstBad, soundEntries}
 use Rattle.sums.specs.Transform.{dct3Sum}
-use Rattle.figures.proofs.Table.{ready, ready-after-dct2, figure-is}
+use Rattle.figures.proofs.Table.{ready, ready-after, after-dct2, figure-is}
 use Rattle.figures.proofs.figure.h.Statement.{statement}
 use Rattle.figures.proofs.figure.h.Tie as tie
 
@@ -13,7 +13,8 @@ unfolding soundEntries firstBad
 dct2-requires c κs = ready 4 512 (search) _ _ tt refl refl
 
 dct3-requires : tie.Need-dct3-requires
-dct3-requires c κs = ready-after-dct2 4 512 (search) _ _ _ (c .before .before .before .dct2 .ensures) refl refl
+dct3-requires c κs =
+    ready-after 4 512 (search) _ _ (after-dct2 _ (c .before .before .before .dct2 .ensures)) refl refl
 
 returns : tie.Need-returns
 returns c = c .before .dct3 .ensures ∙ ap dct3Sum (c .before .before .before .before .before .dct2 .ensures) ∙ figure-is 7

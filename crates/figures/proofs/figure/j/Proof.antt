@@ -4,7 +4,7 @@ use mathlib.Core.Path.{refl, _∙_, ap}
 use borrow.Author.Needs.{needs}
 use Rattle.sums.specs.Bad.{firstBad, soundEntries}
 use Rattle.sums.specs.Transform.{dct4Sum}
-use Rattle.figures.proofs.Table.{ready, ready-after-dct4, figure-is}
+use Rattle.figures.proofs.Table.{ready, ready-after, after-dct4, figure-is}
 use Rattle.figures.proofs.figure.j.Statement.{statement}
 use Rattle.figures.proofs.figure.j.Tie as tie
 
@@ -13,7 +13,8 @@ unfolding soundEntries firstBad
 dct4-requires c κs = ready 8 512 (search) _ _ tt refl refl
 
 dct4-requires-2 : tie.Need-dct4-requires-2
-dct4-requires-2 c κs = ready-after-dct4 8 512 (search) _ _ _ (c .before .before .before .dct4 .ensures) refl refl
+dct4-requires-2 c κs =
+    ready-after 8 512 (search) _ _ (after-dct4 _ (c .before .before .before .dct4 .ensures)) refl refl
 
 returns : tie.Need-returns
 returns c = c .before .dct42 .ensures ∙ ap dct4Sum (c .before .before .before .before .before .dct4 .ensures) ∙ figure-is 9
