@@ -3,3 +3,4 @@ pub mod Sizes
 pub mod Lengths
 pub mod Bad
 pub mod Stores
+pub mod Accepted

@@ -8,7 +8,7 @@ use native.Mathlib.Nat.{not-suc-le-zero, le-of-suc-le-suc}
 use native.Mathlib.Numerals.{add-one}
 use lib.ListN.{length, getD, take, drop, set}
 use lib.Seq.{take-length}
-use Rattle.lending.specs.Part.{cleared, copied}
+use Rattle.ring.specs.Part.{cleared, copied}
 
 module _ {A : Type 0} where
   -- the first n entries of `from`, then those of `to` beyond them

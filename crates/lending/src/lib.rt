@@ -1,12 +1,15 @@
 // What a call asks of its size and of the slices that it is lent, before it changes any entry: document 01, "Sizes" and "Numbers
-// for no", 1 to 3. And the two stores that calls share: zeroing and copying. A test here answers; the call that asks refuses.
+// for no", 1 to 3. And the two stores that calls share: zeroing and copying. A test here answers and changes nothing.
 ghost use mathlib.Core.Path.{_≡_};
 ghost use Prim.Native.Nat.{_≤_};
 ghost use lib.ListN.{length};
 ghost use Rattle.sums.specs.Size.{allowedSize};
 ghost use Rattle.sums.specs.Lengths.{lengthsFit};
 ghost use Rattle.sums.specs.Bad.{firstBad, soundEntries};
-ghost use Rattle.lending.specs.Part.{cleared, copied};
+ghost use Rattle.sums.specs.Call.{inPlaceAnswer};
+ghost use Rattle.ring.specs.Part.{cleared, copied};
+use answers::Answer;
+use answers::Refusal;
 
 // The modulus of the residues.
 const P: u32 = 998244353;
@@ -47,6 +50,22 @@ pub fn sound(entries: &[u32]) -> bool
     ensures { λ r. ⌜ r ≡ soundEntries (now (entries .entry)) ⌝ }
 {
     first_bad(entries) == entries.len()
+}
+
+// What a transform in place answers before it stores anything: 1, 2 and 3, in that order.
+pub fn in_place_answer(least: usize, n: usize, buffer: &[u32], scratch: usize) -> Answer
+    ensures { λ r. ⌜ r ≡ inPlaceAnswer least n (now (buffer .entry)) scratch ⌝ }
+{
+    if !allowed_size(least, n) {
+        return Answer::No(Refusal::Size);
+    }
+    if !lengths_fit(buffer.len(), n, scratch, n) {
+        return Answer::No(Refusal::Length);
+    }
+    if !sound(buffer) {
+        return Answer::No(Refusal::Residue);
+    }
+    Answer::Done
 }
 
 // Zeroes the first n entries, as every accepted call does to the scratch that it needed.

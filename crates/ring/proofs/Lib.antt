@@ -12,4 +12,9 @@ pub mod Turn
 pub mod Stride
 pub mod Order
 pub mod Inverse
+pub mod SplitTwo
+pub mod Third
+pub mod OddEntries
+pub mod SplitThree
+pub mod Sines
 pub mod Modular

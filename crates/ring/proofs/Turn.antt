@@ -1,7 +1,7 @@
 -- Turns over any commutative ring: angles are whole numbers a, in units of 1/(4n) of a turn, and come from a root w
 -- with w^(2n) = −1, its inverse, and one half. cs a = (w^a + w^−a)/2, sn a = (w^a − w^−a)/(2j) with j = w^n.
 -- There is no negative angle: an angle b with a + b a number of half turns stands for −a.
--- Places: cs-zero, sn-zero, *-at-quarter, *-odd-quarters. Shifts: *-turns, *-quarter-more. Reflections: *-mirror, *-quarter.
+-- Places: cs-zero, sn-zero, *-at-quarter, *-odd-quarters. Shifts: *-turns, *-quarter-more. Reflections: *-mirror, *-quarter, cs-quarters-less.
 -- Sums of angles: *-add, *-sub, square-sum, *-product. Another length: `Stride`. Assumes nothing.
 use mathlib.Core.Path.{_≡_, sym, _∙_, ap, ap₂}
 use mathlib.Core.List.{List, [], _∷_}
@@ -281,6 +281,13 @@ module _ {C : Type 0} (R : Ring C) (n : ℕ) (W : Turn R n) where
 
   pub sn-quarter : (a b : ℕ) → a + b ≡ n → sn b ≡ cs a
   sn-quarter a b e = sym (cs-quarter b a (Nat.add-comm b a ∙ e))
+
+  -- b is an odd number of quarters less a
+  pub cs-quarters-less : (a b t : ℕ) → a + b ≡ n * (2 * t + 1) → cs b ≡ sign R t ⊗ sn a
+  cs-quarters-less a b t e =
+      sym (cs-sub b a) ∙ ap (λ (x : ℕ). cs x ⊗ cs a ⊕ sn x ⊗ sn a) (Nat.add-comm b a ∙ e)
+      ∙ ap₂ (λ (x y : C). x ⊗ cs a ⊕ y ⊗ sn a) (cs-odd-quarters t) (sn-odd-quarters t)
+      ∙ ring R (cs a ∷ sn a ∷ sign R t ∷ []) (:0 :* var 0 :+ var 2 :* var 1) (var 2 :* var 1) tt
 
   -- the sine is a cosine, three quarters on
   pub sn-is-cs : (a : ℕ) → sn a ≡ cs (a + 3 * n)

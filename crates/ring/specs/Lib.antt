@@ -1,1 +1,2 @@
 pub mod Finite
+pub mod Part

@@ -1,7 +1,7 @@
 -- Document 01's cos and sin over residues obey the laws of angles. Each is carried over from the turn of 8192 units over residues:
 -- `of-cos` and `of-sin` say that the definitions are that turn's cs and sn.
 -- Divisions: cos-divided, sin-divided. Sums: cos-add, sin-add, square-sum. Shifts: cos-turn, sin-turn, cos-half-turn, sin-half-turn,
--- sin-is-cos, cos-mod, sin-mod. Reflections: cos-mirror, sin-mirror. Assumes nothing.
+-- sin-is-cos, cos-mod, sin-mod. Reflections: cos-quarter-less, sin-mirror. Assumes nothing.
 use mathlib.Core.Path.{_≡_, sym, _∙_, ap, ap₂}
 use Prim.Native.Nat.{ℕ, _+_, _*_, _^_, _%_, _/_, _<_}
 use native.Mathlib.Nat as Nat
@@ -164,6 +164,11 @@ inverse-power a b t e =
 pub sin-quarter-more : (k : ℕ) → sinOf (k + 2048) ≡ cosOf k
 sin-quarter-more k =
     sin-only (k + 2048) (cosOf k) (Turn.sn-quarter-more Zp 2048 turn k ∙ sym (of-cos k)) ∙ cos-reduced k
+
+-- a quarter of a turn less a has the sine of a as its cosine
+pub cos-quarter-less : (a b : ℕ) → a + b ≡ 2048 → cosOf b ≡ sinOf a
+cos-quarter-less a b e =
+    cos-only b (sinOf a) (Turn.cs-quarter Zp 2048 turn a b e ∙ sym (of-sin a)) ∙ sin-reduced a
 
 -- half a turn less a has the same sine
 pub sin-mirror : (a b : ℕ) → a + b ≡ 4096 → sinOf b ≡ sinOf a

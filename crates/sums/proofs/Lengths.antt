@@ -1,5 +1,5 @@
 -- The turn at each length n that goes into a quarter turn, 2048: document 01's angles a/(4n) of a turn are that turn's angles a.
--- And sums of products as residues. Assumes nothing.
+-- A length that goes into another has some of its angles (part-length, cs-part). And sums of products as residues. Assumes nothing.
 use mathlib.Core.Path.{_≡_, sym, _∙_, ap}
 use Prim.Native.Nat.{ℕ, _+_, _*_, _-_, _^_, _/_, _≤_}
 use native.Mathlib.Nat as Nat
@@ -40,6 +40,10 @@ module _ (n : ℕ) (L : Length n) where
       let whole : L .step * (4 * n) ≡ 8192 = omega (arith, L .whole) in
       Nat.div-eq-of-eq-mul-left (factor-positive (L .step) (4 * n) 8192 whole (omega arith)) (sym whole)
 
+  -- a turn of 4n units is a whole one
+  pub turn-whole : 8192 / (4 * n) * (4 * n) ≡ 8192
+  turn-whole = ap (λ (s : ℕ). s * (4 * n)) step-is ∙ omega (arith, L .whole)
+
   unit : (a : ℕ) → L .step * a ≡ a * (8192 / (4 * n))
   unit a = Nat.mul-comm (L .step) a ∙ ap (λ (x : ℕ). a * x) (sym step-is)
 
@@ -54,6 +58,17 @@ module _ (n : ℕ) (L : Length n) where
   sin-at a =
       of-sin (a * (8192 / (4 * n)))
       ∙ sym (Stride.sn-stride Zp (L .step) n 2048 (L .whole) turn a ∙ ap (Turn.sn Zp 2048 turn) (unit a))
+
+-- where u times n is N, an angle of length n is u angles of length N
+module _ (u n N : ℕ) (parts : u * n ≡ N) (L : Length N) where
+  pub part-length : Length n
+  part-length = record { step = L .step * u; whole = Nat.mul-assoc (L .step) u n ∙ ap (λ (m : ℕ). L .step * m) parts ∙ L .whole }
+
+  pub cs-part : (a : ℕ) → Turn.cs Zp n (turnAt n part-length) a ≡ Turn.cs Zp N (turnAt N L) (u * a)
+  unfolding turnAt part-length
+  cs-part a =
+      Stride.cs-stride Zp (L .step * u) n 2048 (part-length .whole) turn a ∙ ap (Turn.cs Zp 2048 turn) (Nat.mul-assoc (L .step) u a)
+      ∙ sym (Stride.cs-stride Zp (L .step) N 2048 (L .whole) turn (u * a))
 
 -- a sum of products, term by term
 pub of-products : (n : ℕ) (x y : ℕ → ℕ) (v : ℕ → Residue p) → ((i : ℕ) → of p (y i) ≡ v i)

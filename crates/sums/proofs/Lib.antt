@@ -2,6 +2,7 @@ pub mod Constants
 pub mod Angles
 pub mod Powers
 pub mod Turns
+pub mod Cosines
 pub mod Terms
 pub mod Signed
 pub mod Lengths

@@ -7,20 +7,33 @@ use lib.ListN.{length}
 use Rattle.ring.proofs.Modular.{Residue, of, of-mod, mod-eq}
 use Rattle.ring.proofs.Table.{length-tab, getD-tab, tab-ext}
 use Rattle.sums.specs.Residue.{p, Residues}
-use Rattle.sums.specs.Transform.{entry, outputs, dct2Sum, dct4Sum}
+use Rattle.sums.specs.Transform.{entry, outputs, dct2Sum, dst2Sum, dct3Sum, dst3Sum, dct4Sum}
 use Rattle.sums.proofs.Constants.{above}
 
 -- the entries of a list as residues
 abbrev pub residues : List ℕ → ℕ → Residue p
 residues x i = of p (entry x i)
 
+-- an entry of a list of outputs, as a residue
+pub of-output : (n : ℕ) (f : ℕ → ℕ) (k : ℕ) → k < n → of p (entry (outputs n f) k) ≡ of p (f k)
+of-output n f k l = ap (of p) (getD-tab n (λ i. f i % p) k 0 l) ∙ of-mod p (f k)
+
+-- there are as many outputs as entries
 pub length-dct2 : (x : List ℕ) → length (dct2Sum x) ≡ length x
 unfolding dct2Sum
 length-dct2 x = length-tab (length x) _
 
--- an entry of a list of outputs, as a residue
-pub of-output : (n : ℕ) (f : ℕ → ℕ) (k : ℕ) → k < n → of p (entry (outputs n f) k) ≡ of p (f k)
-of-output n f k l = ap (of p) (getD-tab n (λ i. f i % p) k 0 l) ∙ of-mod p (f k)
+pub length-dst2 : (x : List ℕ) → length (dst2Sum x) ≡ length x
+unfolding dst2Sum
+length-dst2 x = length-tab (length x) _
+
+pub length-dct3 : (x : List ℕ) → length (dct3Sum x) ≡ length x
+unfolding dct3Sum
+length-dct3 x = length-tab (length x) _
+
+pub length-dst3 : (x : List ℕ) → length (dst3Sum x) ≡ length x
+unfolding dst3Sum
+length-dst3 x = length-tab (length x) _
 
 pub length-dct4 : (x : List ℕ) → length (dct4Sum x) ≡ length x
 unfolding dct4Sum
@@ -38,6 +51,18 @@ outputs-residues n f =
 pub dct2-residues : (x : List ℕ) → Residues (dct2Sum x)
 unfolding dct2Sum
 dct2-residues x = outputs-residues (length x) _
+
+pub dst2-residues : (x : List ℕ) → Residues (dst2Sum x)
+unfolding dst2Sum
+dst2-residues x = outputs-residues (length x) _
+
+pub dct3-residues : (x : List ℕ) → Residues (dct3Sum x)
+unfolding dct3Sum
+dct3-residues x = outputs-residues (length x) _
+
+pub dst3-residues : (x : List ℕ) → Residues (dst3Sum x)
+unfolding dst3Sum
+dst3-residues x = outputs-residues (length x) _
 
 pub dct4-residues : (x : List ℕ) → Residues (dct4Sum x)
 unfolding dct4Sum

@@ -1,6 +1,7 @@
 pub mod Residue
 pub mod Signed
 pub mod Angle
+pub mod Cosines
 pub mod Transform
 pub mod Window
 pub mod Size

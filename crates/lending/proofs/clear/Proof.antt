@@ -4,7 +4,7 @@ use Prim.Native.Nat.{_≤_, _-_}
 use mathlib.Core.Path.{_≡_, refl}
 use native.Mathlib.Omega.{arith}
 use lib.ListN.{length, length-set}
-use Rattle.lending.specs.Part.{cleared}
+use Rattle.ring.specs.Part.{cleared}
 use Rattle.lending.proofs.Stores.{clear-more}
 use Rattle.lending.proofs.clear.Statement.{statement}
 use Rattle.lending.proofs.clear.Tie as tie

@@ -1,0 +1,5 @@
+pub mod Ops
+pub mod Lists
+pub mod Naive
+pub mod Split
+pub mod Residues

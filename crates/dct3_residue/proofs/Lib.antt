@@ -1,0 +1,4 @@
+pub mod Leaf
+pub mod Joined
+pub mod Inner
+pub mod Room

@@ -1,0 +1,13 @@
+-- What a call of the C interface returns and leaves: the promised outcome, with document 01's number for its answer. Assumes nothing.
+use mathlib.Core.Path.{_≡_}
+use mathlib.Core.List.{List}
+use Prim.Native.Nat.{ℕ}
+use Rattle.answers.specs.declared.Answer.{Answer}
+use Rattle.answers.specs.Number.{answerNumber}
+use Rattle.sums.specs.Call.{Outcome, outcome}
+
+-- the number is that of the promised answer, where 0 is done, and both slices hold what is promised
+pub record Returned (number : ℕ) (buffer scratch : List ℕ) (promised : Outcome) : Type 0 where
+  pub answer : Answer
+  pub numbered : number ≡ answerNumber answer
+  pub left : outcome answer buffer scratch ≡ promised

@@ -1,0 +1,82 @@
+-- A transform in place that is answered `Done` has passed its tests (answered-accepted, accepted-answered). A call that does its work exactly where it is answered so has the
+-- outcome that is promised (outcome-done, outcome-refused). Assumes nothing.
+use mathlib.Core.Bool.{Bool, true, false}
+use mathlib.Core.List.{List}
+use mathlib.Core.Path.{_≡_, sym, _∙_, ap, ap₂, subst}
+use Prim.Native.Nat.{ℕ, _≤_}
+use lib.Dec.{T}
+use lib.ListN.{length}
+use Rattle.answers.specs.Refuse.{transformAnswer}
+use Rattle.answers.specs.declared.Refusal.{Refusal}
+use Rattle.answers.specs.declared.Answer.{Answer}
+use Rattle.answers.specs.declared.Answer.the-variants.{Done, No}
+use Rattle.ring.proofs.Below.{true-is}
+use Rattle.ring.specs.Part.{cleared}
+use Rattle.sums.specs.Bad.{soundEntries}
+use Rattle.sums.specs.Call.{inPlaceAnswer, outcome, outcomeOf, inPlace}
+use Rattle.sums.specs.Lengths.{lengthsFit}
+use Rattle.sums.specs.Size.{allowedSize}
+use Rattle.lending.specs.Accepted.{Accepted}
+use Rattle.lending.proofs.Bad.{sound-residues, residues-sound}
+use Rattle.lending.proofs.Lengths.{fit-lengths, lengths-fit}
+use Rattle.lending.proofs.Sizes.{allowed-exponent, exponent-allowed}
+
+abbrev isDone : Answer → Bool
+isDone Done = true
+isDone (No r) = false
+
+-- only where all tests hold is it done
+all-passed : (size lengths residues : Bool) → T (isDone (transformAnswer size lengths residues true)) → T size × T lengths × T residues
+all-passed true true true t = (tt, tt, tt)
+all-passed true true false t = absurd t
+all-passed true false residues t = absurd t
+all-passed false lengths residues t = absurd t
+
+pub answered-accepted : (least n : ℕ) (buffer : List ℕ) (scratchLength : ℕ) → inPlaceAnswer least n buffer scratchLength ≡ Done
+    → Accepted least n buffer scratchLength
+answered-accepted least n buffer scratchLength e =
+    let tests = all-passed (allowedSize least n) (lengthsFit (length buffer) n scratchLength n) (soundEntries buffer) (subst (λ (a : Answer). T (isDone a)) (sym e) tt) in
+    let size = allowed-exponent least n (tests .0) in
+    let fit = fit-lengths (length buffer) n scratchLength n (tests .1) in
+    record {
+      exponent = size .0;
+      small = size .1;
+      power = size .2;
+      enough = size .3;
+      whole = fit .0;
+      room = fit .1;
+      residues = sound-residues buffer (tests .2);
+    }
+
+-- the outcome of a call that asked, did what it promises where the answer was `Done`, and nothing else
+module _ (least n : ℕ) (transform : List ℕ → List ℕ) (buffer scratch : List ℕ) {answer : Answer} (asked : answer ≡ inPlaceAnswer least n buffer (length scratch)) where
+  by-answer : outcomeOf transform n buffer scratch answer ≡ inPlace least transform n buffer scratch
+  by-answer = ap (outcomeOf transform n buffer scratch) asked
+
+  pub outcome-done : answer ≡ Done → {buffer' scratch' : List ℕ} → buffer' ≡ transform buffer → scratch' ≡ cleared 0 n scratch
+      → outcome answer buffer' scratch' ≡ inPlace least transform n buffer scratch
+  outcome-done done stored zeroed =
+      ap₂ (outcome answer) stored zeroed ∙ ap (λ (a : Answer). outcome a (transform buffer) (cleared 0 n scratch)) done
+      ∙ ap (outcomeOf transform n buffer scratch) (sym done) ∙ by-answer
+
+  pub outcome-refused : (r : Refusal) → answer ≡ No r → outcome answer buffer scratch ≡ inPlace least transform n buffer scratch
+  outcome-refused r refused =
+      ap (λ (a : Answer). outcome a buffer scratch) refused ∙ ap (outcomeOf transform n buffer scratch) (sym refused) ∙ by-answer
+
+-- a call whose tests are passed is answered `Done`
+pub accepted-answered : {least n : ℕ} {buffer : List ℕ} {scratchLength : ℕ} → Accepted least n buffer scratchLength
+    → inPlaceAnswer least n buffer scratchLength ≡ Done
+accepted-answered {least} {n} {buffer} {scratchLength} a =
+    (λ i.
+    transformAnswer (holds (allowedSize least n) size i) (holds (lengthsFit (length buffer) n scratchLength n) fit i)
+    (holds (soundEntries buffer) (residues-sound buffer (a .residues)) i)
+    true)
+  where
+    holds : (test : Bool) → T test → test ≡ true
+    holds test t = sym (true-is test t)
+
+    size : T (allowedSize least n)
+    size = subst (λ (m : ℕ). T (allowedSize least m)) (sym (a .power)) (exponent-allowed least (a .exponent) (a .small) (subst (λ (m : ℕ). least ≤ m) (a .power) (a .enough)))
+
+    fit : T (lengthsFit (length buffer) n scratchLength n)
+    fit = lengths-fit (length buffer) n scratchLength n (a .whole) (a .room)

@@ -1,0 +1,4 @@
+pub mod OneReduction
+pub mod Halves
+pub mod Parts
+pub mod Reduced

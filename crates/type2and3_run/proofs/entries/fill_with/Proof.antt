@@ -1,0 +1,15 @@
+-- `type2and3_run::entries::fill_with` meets its contract: each of the three stores leaves residues.
+-- Assumes nothing.
+use native.Mathlib.Omega.{arith}
+use Rattle.type2and3_run.proofs.entries.fill_with.Statement.{statement}
+use Rattle.type2and3_run.proofs.entries.fill_with.Tie as tie
+
+returns : tie.Need-returns
+returns c = λ small.
+    let second = c .before .before in
+    let first = second .before .before .before .before in
+    let filled = first .before .before .before .before in
+    second .put2 .ensures small (first .put .ensures (omega arith) (filled .fill .ensures))
+
+pub fill-with-spec : {M : Type 1} → statement M
+fill-with-spec = tie.close (tie.spec (λ c κs. omega arith) (λ c κs. omega arith) (λ c κs. omega arith) (λ c. omega arith) returns)

@@ -1,0 +1,46 @@
+// Counts as lines of text.
+use crate::count::Count;
+use crate::count::Tally;
+use libc::STDOUT_FILENO;
+
+pub fn text(bytes: &[u8]) {
+    io::write_all(STDOUT_FILENO, bytes);
+}
+
+fn number(n: u64) {
+    io::print_decimal(STDOUT_FILENO, n);
+}
+
+// How many of how many are so.
+fn of(count: Count, what: &[u8]) {
+    number(count.good);
+    text(b" of ");
+    number(count.all);
+    text(what);
+}
+
+fn answers(count: Count, right: u32) {
+    of(count, b" calls answer ");
+    number(right as u64);
+    text(b"; ");
+}
+
+// The start of a line.
+pub fn size(n: usize) {
+    text(b"N = ");
+    number(n as u64);
+    text(b": ");
+}
+
+// The rest of a line, of calls that should be accepted.
+pub fn accepted(tally: Tally, what: &[u8]) {
+    answers(tally.answers, 0);
+    of(tally.outputs, what);
+    of(tally.lent, b" entries of scratch are as they should be\n");
+}
+
+// The same of calls that should be refused.
+pub fn refused(tally: Tally, right: u32) {
+    answers(tally.answers, right);
+    of(tally.lent, b" lent entries are as they were\n");
+}

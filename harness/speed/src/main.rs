@@ -1,0 +1,121 @@
+//! Times the residue routines beside the oracle's. Usage:
+//!
+//!     speed                       all routines at N = 16, 64, 256 and 1024: a markdown table of times
+//!     speed calls ROUTINE N K     K calls of one routine, at most 64, for a program that counts instructions
+mod routine;
+
+use routine::{Routine, NAMES};
+use std::hint::black_box;
+use std::process::exit;
+use std::time::Instant;
+
+const LENGTHS: [usize; 4] = [16, 64, 256, 1024];
+
+/// Odd, so that the median is a measured time.
+const ROUNDS: usize = 51;
+
+/// A batch of calls is timed as one and takes about this long, unless a single call takes longer.
+const BATCH_NANOSECONDS: f64 = 500_000.0;
+
+/// The most calls of `speed calls`.
+const MOST_CALLS: usize = 64;
+
+/// Nanoseconds per call, each on a refilled buffer. The refill is within the timing.
+fn time(routine: &mut Routine, calls: usize) -> f64 {
+    let start = Instant::now();
+    for _ in 0..calls {
+        black_box(&mut *routine).refill();
+        routine.run();
+    }
+    start.elapsed().as_nanos() as f64 / calls as f64
+}
+
+/// Stops unless type 3 undoes type 2 up to N/2, for the fast routines, the naive ones and the oracle's: no wrong routine is timed.
+fn check(len: usize) {
+    for pair in [
+        ["dct2_fast", "dct3_fast"],
+        ["dct2_naive", "dct3_naive"],
+        ["dct2_oracle", "dct3_oracle"],
+    ] {
+        let [mut forth, mut back] = pair.map(|name| Routine::new(name, len).unwrap());
+        if !forth.undone_by(&mut back) {
+            eprintln!("N = {len}: {} does not undo {} up to N/2", pair[1], pair[0]);
+            exit(1);
+        }
+    }
+}
+
+fn median(times: &mut [f64]) -> f64 {
+    times.sort_by(|x, y| x.total_cmp(y));
+    times[times.len() / 2]
+}
+
+/// Every routine at every length in each round, so that what slows the machine for a while slows all of them.
+fn table() {
+    let mut routines = Vec::new();
+    for len in LENGTHS {
+        check(len);
+        for name in NAMES {
+            let mut routine = Routine::new(name, len).unwrap();
+            time(&mut routine, 2);
+            let calls = (BATCH_NANOSECONDS / time(&mut routine, 3)).max(1.0) as usize;
+            routines.push((routine, calls, Vec::new()));
+        }
+    }
+    for _ in 0..ROUNDS {
+        for (routine, calls, times) in &mut routines {
+            // One call that is not timed brings the routine's memory back into the caches.
+            time(routine, 1);
+            times.push(time(routine, *calls));
+        }
+    }
+    let medians: Vec<f64> = routines.iter_mut().map(|(_, _, times)| median(times)).collect();
+
+    println!("Nanoseconds per call, the median of {ROUNDS} rounds in one run; every round times all routines at all lengths.");
+    println!("Every call works on a buffer refilled with the same input, and the refill is within the timing, for all alike. A");
+    println!("residue call includes its tests for a refusal and zeroes its scratch; the oracle tests lengths alone and leaves its");
+    println!("scratch as it comes. The oracle is rustdct's split radix on f64 with naive leaves at lengths 1 and 2.");
+    println!();
+    println!("| N | transform | residue fast | residue naive | oracle f64 | fast / oracle | naive / fast |");
+    println!("|---:|---|---:|---:|---:|---:|---:|");
+    for (len, row) in LENGTHS.iter().zip(medians.chunks(NAMES.len())) {
+        for (transform, fast, naive, oracle) in [("DCT-II", row[0], row[2], row[4]), ("DCT-III", row[1], row[3], row[5])] {
+            let (to_oracle, to_fast) = (fast / oracle, naive / fast);
+            println!("| {len} | {transform} | {fast:.0} | {naive:.0} | {oracle:.0} | {to_oracle:.2} | {to_fast:.1} |");
+        }
+    }
+}
+
+/// Makes as many routines as there can be calls, whatever `count` is, and runs the first `count` of them once each. So two runs differ
+/// by their calls alone, and no refill is counted.
+fn calls(name: &str, len: usize, count: usize) -> Option<()> {
+    let mut routines = Vec::new();
+    for _ in 0..MOST_CALLS {
+        routines.push(Routine::new(name, len)?);
+    }
+    routines.iter_mut().for_each(Routine::refill);
+    if count > MOST_CALLS {
+        return None;
+    }
+    for routine in &mut routines[..count] {
+        black_box(routine).run();
+    }
+    Some(())
+}
+
+fn main() {
+    let arguments: Vec<String> = std::env::args().skip(1).collect();
+    let words: Vec<&str> = arguments.iter().map(String::as_str).collect();
+    let done = match words[..] {
+        [] => Some(table()),
+        ["calls", name, len, count] => match (len.parse(), count.parse()) {
+            (Ok(len), Ok(count)) if LENGTHS.contains(&len) => calls(name, len, count),
+            _ => None,
+        },
+        _ => None,
+    };
+    if done.is_none() {
+        eprintln!("usage: speed, or speed calls ROUTINE N K, where ROUTINE is one of {NAMES:?}, N one of {LENGTHS:?}, K at most {MOST_CALLS}");
+        exit(2);
+    }
+}
