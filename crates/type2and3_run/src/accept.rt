@@ -3,9 +3,9 @@ ghost use mathlib.Core.Path.{_≡_};
 ghost use Prim.Native.Nat.{_≤_};
 ghost use lib.ListN.{length};
 use crate::call::call;
-use crate::count;
-use crate::count::Tally;
-use crate::entries;
+use counting::count;
+use counting::count::Tally;
+use counting::entries;
 
 // The naive and the fast call of one transform on the same residues.
 fn both(transform: usize, naive: &mut [u32], fast: &mut [u32], scratch: &mut [u32]) -> Tally

@@ -1,9 +1,9 @@
 // One of the eight public calls, by number: the even ones are naive and the odd ones fast, and type 3 is 4 beyond its type 2.
-use crate::count;
-use crate::count::Tally;
-use crate::entries;
 use answers::Answer;
 use answers::answer_number;
+use counting::count;
+use counting::count::Tally;
+use counting::entries;
 use type2and3_residue::calls;
 
 fn by_number(which: usize, n: usize, buffer: &mut [u32], scratch: &mut [u32]) -> Answer {

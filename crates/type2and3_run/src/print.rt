@@ -1,6 +1,6 @@
 // Counts as lines of text.
-use crate::count::Count;
-use crate::count::Tally;
+use counting::count::Count;
+use counting::count::Tally;
 use libc::STDOUT_FILENO;
 
 pub fn text(bytes: &[u8]) {

@@ -3,9 +3,9 @@ ghost use mathlib.Core.Path.{_≡_};
 ghost use Prim.Native.Nat.{_≤_};
 ghost use lib.ListN.{length};
 use crate::call::call;
-use crate::count;
-use crate::count::Tally;
-use crate::entries;
+use counting::count;
+use counting::count::Tally;
+use counting::entries;
 
 // What a call is told and lent, and what it should answer: its size, the lengths of buffer and scratch, one entry of the buffer, whose
 // others are residues, and the number of the refusal.

@@ -2,10 +2,10 @@
 ghost use Prim.Native.Nat.{_≤_};
 use crate::accept::agree;
 use crate::accept::back;
-use crate::count;
 use crate::print;
 use crate::refuse::Case;
 use crate::refuse::refuse;
+use counting::count;
 
 const P: u32 = 998244353;
 

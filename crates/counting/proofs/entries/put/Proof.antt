@@ -1,10 +1,10 @@
--- `type2and3_run::entries::put` meets its contract: a store of a residue leaves residues.
+-- `counting::entries::put` meets its contract: a store of a residue leaves residues.
 -- Assumes nothing.
 use native.Mathlib.Omega.{arith}
 use borrow.Author.Needs.{needs}
-use Rattle.type2and3_run.proofs.Stored.{residues-set}
-use Rattle.type2and3_run.proofs.entries.put.Statement.{statement}
-use Rattle.type2and3_run.proofs.entries.put.Tie as tie
+use Rattle.counting.proofs.Stored.{residues-set}
+use Rattle.counting.proofs.entries.put.Statement.{statement}
+use Rattle.counting.proofs.entries.put.Tie as tie
 
 returns : tie.Need-returns
 returns c = λ small residues. residues-set _ _ _ residues small

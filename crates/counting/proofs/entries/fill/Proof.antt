@@ -1,11 +1,11 @@
--- `type2and3_run::entries::fill` meets its contract. The loop's invariant is `Stored`: the places passed hold residues; and the state is below the generator's modulus.
+-- `counting::entries::fill` meets its contract. The loop's invariant is `Stored`: the places passed hold residues; and the state is below the generator's modulus.
 -- Assumes nothing.
 use Prim.Native.Nat.{_-_, _<_}
 use native.Mathlib.Omega.{arith}
 use lib.ListN.{length}
-use Rattle.type2and3_run.proofs.Stored.{Stored, stored-more, stored-all}
-use Rattle.type2and3_run.proofs.entries.fill.Statement.{statement}
-use Rattle.type2and3_run.proofs.entries.fill.Tie as tie
+use Rattle.counting.proofs.Stored.{Stored, stored-more, stored-all}
+use Rattle.counting.proofs.entries.fill.Statement.{statement}
+use Rattle.counting.proofs.entries.fill.Tie as tie
 
 abbrev Inv-loop : tie.InvT-loop
 Inv-loop start out₀ state₀ i₀ i-end out state i = Stored out₀ i out × (state < 2147483647)

@@ -1,13 +1,13 @@
--- `type2and3_run::entries::compare` meets its contract. The loop's invariant is `Compared`: the places passed at which the slices hold the same are counted.
+-- `counting::entries::compare` meets its contract. The loop's invariant is `Compared`: the places passed at which the slices hold the same are counted.
 -- Assumes nothing.
 use mathlib.Core.Logic.{⊎-elim}
 use mathlib.Core.Path.{refl}
 use Prim.Native.Nat.{_-_}
 use native.Mathlib.Omega.{arith}
 use lib.ListN.{length}
-use Rattle.type2and3_run.proofs.Compared.{Compared, compared-none, compared-same, compared-other, compared-all}
-use Rattle.type2and3_run.proofs.entries.compare.Statement.{statement}
-use Rattle.type2and3_run.proofs.entries.compare.Tie as tie
+use Rattle.counting.proofs.Compared.{Compared, compared-none, compared-same, compared-other, compared-all}
+use Rattle.counting.proofs.entries.compare.Statement.{statement}
+use Rattle.counting.proofs.entries.compare.Tie as tie
 
 abbrev Inv-loop : tie.InvT-loop
 Inv-loop entries right good₀ i₀ i-end good i = Compared entries right i good

@@ -1,9 +1,9 @@
--- `type2and3_run::count::answer` meets its contract: by the two cases of its test.
+-- `counting::count::answer` meets its contract: by the two cases of its test.
 -- Assumes nothing.
 use mathlib.Core.Path.{refl}
-use Rattle.type2and3_run.proofs.Compared.{one-same, one-other}
-use Rattle.type2and3_run.proofs.count.answer.Statement.{statement}
-use Rattle.type2and3_run.proofs.count.answer.Tie as tie
+use Rattle.counting.proofs.Compared.{one-same, one-other}
+use Rattle.counting.proofs.count.answer.Statement.{statement}
+use Rattle.counting.proofs.count.answer.Tie as tie
 
 returns : tie.Need-returns
 returns c = (refl, one-same _ _ (c .if1 .taken))

@@ -11,8 +11,8 @@ use borrow.Author.Tests.{eq-eqb, ne-eqb}
 use lib.Dec.{eqb}
 use lib.ListN.{length, getD}
 use Rattle.ring.proofs.Table.{getD-tab}
-use Rattle.type2and3_run.specs.Counted.{one, alike}
-use Rattle.type2and3_run.specs.Lent.{markOrZero, marked}
+use Rattle.counting.specs.Counted.{one, alike}
+use Rattle.counting.specs.Lent.{markOrZero, marked}
 
 pub one-same : (a b : ℕ) → a ≡ b → 1 ≡ one (eqb a b)
 one-same a b e = rw (eq-eqb a b e)

@@ -2,7 +2,7 @@
 ghost use mathlib.Core.Path.{_≡_};
 ghost use Prim.Native.Nat.{_+_, min};
 ghost use lib.Dec.{eqb};
-ghost use Rattle.type2and3_run.specs.Counted.{one};
+ghost use Rattle.counting.specs.Counted.{one};
 
 pub struct Count {
     pub all: u64,

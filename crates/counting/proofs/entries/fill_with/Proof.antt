@@ -1,8 +1,8 @@
--- `type2and3_run::entries::fill_with` meets its contract: each of the three stores leaves residues.
+-- `counting::entries::fill_with` meets its contract: each of the three stores leaves residues.
 -- Assumes nothing.
 use native.Mathlib.Omega.{arith}
-use Rattle.type2and3_run.proofs.entries.fill_with.Statement.{statement}
-use Rattle.type2and3_run.proofs.entries.fill_with.Tie as tie
+use Rattle.counting.proofs.entries.fill_with.Statement.{statement}
+use Rattle.counting.proofs.entries.fill_with.Tie as tie
 
 returns : tie.Need-returns
 returns c = λ small.

@@ -3,8 +3,8 @@ ghost use mathlib.Core.Path.{_≡_};
 ghost use Prim.Native.Nat.{_*_, _%_, _≤_, _<_};
 ghost use lib.ListN.{length};
 ghost use Rattle.sums.specs.Residue.{p, Residues};
-ghost use Rattle.type2and3_run.specs.Counted.{alike};
-ghost use Rattle.type2and3_run.specs.Lent.{markOrZero, marked, scaled};
+ghost use Rattle.counting.specs.Counted.{alike};
+ghost use Rattle.counting.specs.Lent.{markOrZero, marked, scaled};
 use crate::count::Count;
 
 // Residues as if by chance, by the generator of Park and Miller.

@@ -1,4 +1,4 @@
--- `type2and3_run::entries::compare_marks` meets its contract. The loop's invariant is `Compared` with the list of what should stand there.
+-- `counting::entries::compare_marks` meets its contract. The loop's invariant is `Compared` with the list of what should stand there.
 -- Assumes nothing.
 use mathlib.Core.Logic.{⊎-elim}
 use mathlib.Core.Path.{refl, sym, _∙_}
@@ -6,10 +6,10 @@ use Prim.Native.Nat.{_-_}
 use native.Mathlib.Omega.{arith}
 use denote.Ref.{now}
 use lib.ListN.{length}
-use Rattle.type2and3_run.specs.Lent.{marked}
-use Rattle.type2and3_run.proofs.Compared.{Compared, compared-none, compared-same, compared-other, compared-all, marked-at}
-use Rattle.type2and3_run.proofs.entries.compare_marks.Statement.{statement}
-use Rattle.type2and3_run.proofs.entries.compare_marks.Tie as tie
+use Rattle.counting.specs.Lent.{marked}
+use Rattle.counting.proofs.Compared.{Compared, compared-none, compared-same, compared-other, compared-all, marked-at}
+use Rattle.counting.proofs.entries.compare_marks.Statement.{statement}
+use Rattle.counting.proofs.entries.compare_marks.Tie as tie
 
 abbrev Inv-loop : tie.InvT-loop
 Inv-loop n scratch good₀ i₀ i-end good i = Compared scratch (marked n (length scratch)) i good

@@ -1,9 +1,9 @@
--- `type2and3_run::entries::mark_or_zero` meets its contract: by the two cases of its test.
+-- `counting::entries::mark_or_zero` meets its contract: by the two cases of its test.
 -- Assumes nothing.
 use borrow.Author.Tests.{lt-ltb, le-ltb}
 use borrow.Author.Needs.{needs}
-use Rattle.type2and3_run.proofs.entries.mark_or_zero.Statement.{statement}
-use Rattle.type2and3_run.proofs.entries.mark_or_zero.Tie as tie
+use Rattle.counting.proofs.entries.mark_or_zero.Statement.{statement}
+use Rattle.counting.proofs.entries.mark_or_zero.Tie as tie
 
 returns : tie.Need-returns
 returns c = rw (lt-ltb _ _ (c .if1 .taken))

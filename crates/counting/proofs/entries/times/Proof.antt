@@ -1,9 +1,9 @@
--- `type2and3_run::entries::times` meets its contract: the product of a u32 and a residue fits a u64.
+-- `counting::entries::times` meets its contract: the product of a u32 and a residue fits a u64.
 -- Assumes nothing.
 use borrow.Author.Needs.{needs}
-use Rattle.type2and3_run.proofs.Stored.{product-fits}
-use Rattle.type2and3_run.proofs.entries.times.Statement.{statement}
-use Rattle.type2and3_run.proofs.entries.times.Tie as tie
+use Rattle.counting.proofs.Stored.{product-fits}
+use Rattle.counting.proofs.entries.times.Statement.{statement}
+use Rattle.counting.proofs.entries.times.Tie as tie
 
 mul-result : tie.Need-mul-result
 mul-result c = record { fits = product-fits (c .args .a) (c .args .factor) (search needs) (c .pre) }

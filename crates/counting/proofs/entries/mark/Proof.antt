@@ -1,12 +1,12 @@
--- `type2and3_run::entries::mark` meets its contract. The loop's invariant is `Filled`: the places passed hold their marks.
+-- `counting::entries::mark` meets its contract. The loop's invariant is `Filled`: the places passed hold their marks.
 -- Assumes nothing.
 use Prim.Native.Nat.{_-_}
 use native.Mathlib.Omega.{arith}
 use lib.ListN.{length}
 use Rattle.ring.proofs.Filled.{Filled, filled-none, filled-more, filled-all}
-use Rattle.type2and3_run.specs.Lent.{markOrZero, marked}
-use Rattle.type2and3_run.proofs.entries.mark.Statement.{statement}
-use Rattle.type2and3_run.proofs.entries.mark.Tie as tie
+use Rattle.counting.specs.Lent.{markOrZero, marked}
+use Rattle.counting.proofs.entries.mark.Statement.{statement}
+use Rattle.counting.proofs.entries.mark.Tie as tie
 
 abbrev Inv-loop : tie.InvT-loop
 Inv-loop scratch₀ i₀ i-end scratch i = Filled 0 (markOrZero 0) scratch₀ i scratch

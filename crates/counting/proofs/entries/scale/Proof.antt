@@ -1,4 +1,4 @@
--- `type2and3_run::entries::scale` meets its contract. The loop's invariant is `Filled`: the places passed hold their products, and the others what they held.
+-- `counting::entries::scale` meets its contract. The loop's invariant is `Filled`: the places passed hold their products, and the others what they held.
 -- Assumes nothing.
 use mathlib.Core.Path.{_∙_}
 use Prim.Native.Nat.{_-_, _*_, _%_}
@@ -6,9 +6,9 @@ use native.Mathlib.Omega.{arith}
 use lib.ListN.{length, getD}
 use Rattle.sums.specs.Residue.{p, half}
 use Rattle.ring.proofs.Filled.{Filled, filled-none, filled-more, filled-next, filled-all}
-use Rattle.type2and3_run.specs.Lent.{scaled}
-use Rattle.type2and3_run.proofs.entries.scale.Statement.{statement}
-use Rattle.type2and3_run.proofs.entries.scale.Tie as tie
+use Rattle.counting.specs.Lent.{scaled}
+use Rattle.counting.proofs.entries.scale.Statement.{statement}
+use Rattle.counting.proofs.entries.scale.Tie as tie
 
 abbrev Inv-loop : tie.InvT-loop
 Inv-loop out₀ factor i₀ i-end out i = Filled 0 (λ k. getD out₀ k 0 * (length out₀ * half % p) % p) out₀ i out
