@@ -1,5 +1,6 @@
 /*
- * Kultygash: exact cosine and sine transforms of types 2 and 3 on whole numbers modulo p = 998244353.
+ * Kultygash: exact cosine and sine transforms of types 2, 3 and 4, and the MDCT with its windows, on whole numbers modulo
+ * p = 998244353.
  *
  * Link with libexports.a, which is for x86-64 and needs nothing beside the C library:
  *
@@ -11,30 +12,38 @@
  *
  *     cos = (g^k + g^-k) / 2        sin = (g^k - g^-k) / (2 j)
  *
- * where dividing is dividing modulo p. An angle of pi is half a turn, so an angle of pi a / (2 N) is a / (4 N) of a turn.
+ * where dividing is dividing modulo p. An angle of pi is half a turn, so an angle of pi a / (2 N) is a / (4 N) of a turn, and one of
+ * pi a / (4 N) is a / (8 N) of a turn. sqrt2 means g^1024 + g^-1024, whose square is 2.
  *
- * ARGUMENTS. Every call takes the size n, a buffer and a scratch, each as a pointer and the number of entries behind it.
+ * ARGUMENTS. Every call takes the size n and then what is lent to it, each slice as a pointer and the number of entries behind it.
  *
- *   n         a power of two from 1 to 1024
+ *   n         a power of two: from 1 to 1024 for types 2 and 3, from 2 to 1024 for type 4, windows, MDCT and IMDCT
  *   buffer    n residues: the input, and after the call the output
- *   scratch   n entries or more, with any contents
+ *   window    2 n residues for MDCT and IMDCT, which only read them; 2 n entries with any contents for a call that fills it
+ *   first, second, input, output
+ *             n entries each, and all of them residues but for the output of the MDCT, which is overwritten whatever it holds
+ *   scratch   with any contents: n entries or more for types 2, 3 and 4, 2 n or more for the fast MDCT and IMDCT, and for the naive
+ *             ones as many as you like, none among them
  *
- * ANSWERS. Every call has an answer for any n, any two lengths and any entries. It gives the first of these that applies:
+ * ANSWERS. Every call has an answer for any n, any lengths and any entries. It gives the first of these that applies:
  *
- *   KULTYGASH_NO_SIZE      1   n is not a power of two from 1 to 1024
- *   KULTYGASH_NO_LENGTH    2   buffer_length is not n, or scratch_length is less than n
- *   KULTYGASH_NO_RESIDUE   3   an entry of the buffer is p or more
- *   KULTYGASH_DONE         0   none of these: the transform was done
+ *   KULTYGASH_NO_SIZE      1   n is not a size of this call
+ *   KULTYGASH_NO_LENGTH    2   a length is not the one above, or scratch_length is less than what is needed
+ *   KULTYGASH_NO_RESIDUE   3   an entry that the call reads or adds to is p or more: one of the buffer, of the MDCT's two segments, of
+ *                              the IMDCT's input and its two outputs, or of a window that is not being filled
+ *   KULTYGASH_NO_WINDOW    4   the window is not accepted for blocks of n (MDCT, IMDCT and the test of a window)
+ *   KULTYGASH_DONE         0   none of these: the call was done
  *
- * After an answer of 1, 2 or 3 every entry of the buffer and of the scratch is as it was. After an answer of 0 the buffer holds the
- * sums X_0 to X_(n-1) of what it held before, the first n entries of the scratch are zero, and the rest of the scratch is as it was.
+ * After an answer of 1, 2, 3 or 4 every lent entry is as it was. After an answer of 0 what the call stores to holds what is said at the
+ * call, the entries of the scratch that were needed are zero, and the rest of the scratch is as it was.
  *
  * WHAT THE CALLER SEES TO. No test inside a call can find these, so they are the caller's: each pointer is not null, not even where
- * its length is 0, is aligned for uint32_t and has as many entries behind it as the length says; buffer and scratch do not overlap;
- * and nothing else uses either until the call returns.
+ * its length is 0, is aligned for uint32_t and has as many entries behind it as the length says; what is lent without const overlaps
+ * nothing else that is lent to the same call; and nothing else uses it until the call returns, nor changes what is lent with const.
  *
- * NAIVE AND FAST. The two calls of a pair make the same promise. The naive one works out the sums term by term, in time that grows
- * with the square of n. The fast one uses split radix, in time that grows little faster than n. docs/SPEED.md says how they compare.
+ * NAIVE AND FAST. The two calls of a pair make the same promise, but for the scratch that MDCT and IMDCT need. The naive one works out
+ * the sums term by term, in time that grows with the square of n. The fast one uses split radix, and for the MDCT type 4, in time that
+ * grows little faster than n. docs/SPEED.md says how they compare.
  */
 #ifndef KULTYGASH_H
 #define KULTYGASH_H
@@ -57,6 +66,9 @@ extern "C" {
 #define KULTYGASH_NO_SIZE 1u
 #define KULTYGASH_NO_LENGTH 2u
 #define KULTYGASH_NO_RESIDUE 3u
+#define KULTYGASH_NO_WINDOW 4u
+
+/* ---- in place ---- */
 
 /* In the formulas N is n, x is what the buffer holds before the call, and i and k run from 0 to N - 1. */
 
@@ -77,6 +89,47 @@ uint32_t kultygash_residue_dct3_fast(size_t n, uint32_t *buffer, size_t buffer_l
    After DST-II it gives N/2 times what DST-II was given. */
 uint32_t kultygash_residue_dst3_naive(size_t n, uint32_t *buffer, size_t buffer_length, uint32_t *scratch, size_t scratch_length);
 uint32_t kultygash_residue_dst3_fast(size_t n, uint32_t *buffer, size_t buffer_length, uint32_t *scratch, size_t scratch_length);
+
+/* DCT-IV:  X_k = sum over i of x_i cos(pi (2 i + 1) (2 k + 1) / (4 N)).
+   Done twice it gives N/2 times what it was given. */
+uint32_t kultygash_residue_dct4_fast(size_t n, uint32_t *buffer, size_t buffer_length, uint32_t *scratch, size_t scratch_length);
+
+/* DST-IV:  X_k = sum over i of x_i sin(pi (2 i + 1) (2 k + 1) / (4 N)).
+   Done twice it gives N/2 times what it was given. */
+uint32_t kultygash_residue_dst4_fast(size_t n, uint32_t *buffer, size_t buffer_length, uint32_t *scratch, size_t scratch_length);
+
+/* ---- windows of 2 N entries, w_0 to w_(2N-1), for blocks of N = 2^m. i runs from 0 to 2 N - 1. ---- */
+
+/* The flat window:  w_i = sqrt2^-m. It is accepted. */
+uint32_t kultygash_residue_flat_window(size_t n, uint32_t *window, size_t window_length);
+
+/* The sine window:  w_i = sin(pi (2 i + 1) / (4 N)) sqrt2^(1-m). It is accepted. */
+uint32_t kultygash_residue_sine_window(size_t n, uint32_t *window, size_t window_length);
+
+/* Done exactly if the window is accepted, whoever made it:  w_i = w_(2N-1-i), and for i below N also
+   N (w_i^2 + w_(N+i)^2) = 2 modulo p. Nothing is stored. */
+uint32_t kultygash_residue_test_window(size_t n, const uint32_t *window, size_t window_length);
+
+/* ---- the MDCT. w is the window, i runs from 0 to 2 N - 1 and k from 0 to N - 1. ---- */
+
+/* MDCT of two segments of N, which follow each other as x_0 to x_(2N-1):
+   X_k = sum over i of w_i x_i cos(pi (2 i + 1 + N) (2 k + 1) / (4 N)). The output is overwritten with X. */
+uint32_t kultygash_residue_mdct_naive(size_t n, const uint32_t *first, size_t first_length, const uint32_t *second,
+                                      size_t second_length, uint32_t *output, size_t output_length, const uint32_t *window,
+                                      size_t window_length, uint32_t *scratch, size_t scratch_length);
+uint32_t kultygash_residue_mdct_fast(size_t n, const uint32_t *first, size_t first_length, const uint32_t *second,
+                                     size_t second_length, uint32_t *output, size_t output_length, const uint32_t *window,
+                                     size_t window_length, uint32_t *scratch, size_t scratch_length);
+
+/* IMDCT of N entries X to two segments of N, which follow each other as y_0 to y_(2N-1):
+   y_i = w_i times the sum over k of X_k cos(pi (2 i + 1 + N) (2 k + 1) / (4 N)). It adds y to what first and second hold.
+   So a segment that is the second of one block and the first of the next comes back, once both blocks are added to zeros. */
+uint32_t kultygash_residue_imdct_naive(size_t n, const uint32_t *input, size_t input_length, uint32_t *first, size_t first_length,
+                                       uint32_t *second, size_t second_length, const uint32_t *window, size_t window_length,
+                                       uint32_t *scratch, size_t scratch_length);
+uint32_t kultygash_residue_imdct_fast(size_t n, const uint32_t *input, size_t input_length, uint32_t *first, size_t first_length,
+                                      uint32_t *second, size_t second_length, const uint32_t *window, size_t window_length,
+                                      uint32_t *scratch, size_t scratch_length);
 
 #ifdef __cplusplus
 }

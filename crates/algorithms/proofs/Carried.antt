@@ -12,7 +12,7 @@ use Rattle.ring.proofs.Sign.{sign, sign-even, sign-odd}
 use Rattle.ring.proofs.Sum as Sum
 use Rattle.ring.proofs.Turn as Turn
 use Rattle.ring.proofs.Modular.{Residue, of, mod-eq, of-mod, of-add, of-mul}
-use Rattle.sums.specs.Residue.{p, minusOne}
+use Rattle.sums.specs.Residue.{p, minusOne, Residues}
 use Rattle.sums.specs.Transform.{entry, dct2Sum}
 use Rattle.sums.proofs.Constants.{above, Zp, of-minus}
 use Rattle.sums.proofs.Lengths.{Length, turnAt, part-length, cs-part}
@@ -25,6 +25,14 @@ use Rattle.algorithms.specs.Split.{along, across}
 -- two reduced numbers with one residue are equal
 pub reduced-only : (a b : ℕ) → a % p ≡ a → b % p ≡ b → of p a ≡ of p b → a ≡ b
 reduced-only a b ra rb e = sym ra ∙ mod-eq p a b e ∙ rb
+
+-- and one with the residue of an entry is that entry
+pub is-entry : (xs : List ℕ) → Residues xs → (i v : ℕ) → i < length xs → v % p ≡ v → of p v ≡ residues xs i → v ≡ entry xs i
+is-entry xs below i v l reduced is = reduced-only v (entry xs i) reduced (Nat.mod-eq-of-lt (below .below i l)) is
+
+-- twice a number
+pub of-double : (a : ℕ) → of p (residueOps .double a) ≡ Zp .add (of p a) (of p a)
+of-double a = let twice : 2 * a ≡ a + a = omega arith in of-mod p (2 * a) ∙ ap (of p) twice ∙ of-add p above a a
 
 module _ (a b : ℕ) {u v : Residue p} (a-is : of p a ≡ u) (b-is : of p b ≡ v) where
   pub of-sum : of p (residueOps .add a b) ≡ Zp .add u v

@@ -7,8 +7,11 @@ pub mod Two
 pub mod Leaves
 pub mod Three
 pub mod Sines
+pub mod Back
 pub mod Naive
 pub mod Split
+pub mod Four
+pub mod Fold
 pub mod Turned
 pub mod Stores
 pub mod StepTwo
@@ -17,3 +20,6 @@ pub mod Alternating
 pub mod Reversing
 pub mod ShortLists
 pub mod StepThree
+pub mod StoresFour
+pub mod StoresHalves
+pub mod StepFold

@@ -1,17 +1,19 @@
--- The entries of lists as the algorithms lay them out: backwards (back, reversed), forwards and then backwards (there-, back-), in quarters (quarters-),
--- in groups of four (by-fours) and negated by turns (alternated). `quarter` finds the quarter that a place is in.
+-- The entries of lists as the algorithms lay them out: backwards (back, reversed), forwards and then backwards (there-, back-, there-back-is), in quarters (quarters-),
+-- in groups of four (by-fours), negated by turns (alternated) and by the half that a place is in (choose-below). `quarter` finds the quarter that a place is in.
 -- A place counted from the end is given by an equation, i + suc k ≡ n. Over any type of entry. Assumes nothing.
-use mathlib.Core.Path.{_≡_, refl, sym, _∙_, ap, ap₂}
+use mathlib.Core.Path.{_≡_, refl, sym, _∙_, ap, ap₂, subst}
+use mathlib.Core.Bool.{Bool, true, false, not}
 use mathlib.Core.List.{List, _++_}
-use Prim.Native.Nat.{ℕ, suc, _+_, _*_, _-_, _%_, _/_, _<_}
+use Prim.Native.Nat.{ℕ, suc, _+_, _*_, _-_, _%_, _/_, _<_, _≤_}
 use native.Mathlib.Omega.{arith}
 use native.Mathlib.Decide.{decLt}
+use lib.Dec.{T, ltb, ltb→lt, nltb→le}
 use lib.ListN.{length, getD, length-append, List·getD-append}
-use lib.Seq.{getD-append-add}
+use lib.Seq.{ext-getD, getD-append-add}
 use Rattle.ring.specs.Finite.{tab}
 use Rattle.ring.proofs.Table.{length-tab, getD-tab}
 use Rattle.algorithms.specs.Ops.{Ops, at}
-use Rattle.algorithms.specs.Lists.{back, reversed, quarters, byFours, pickFour, turned, alternated}
+use Rattle.algorithms.specs.Lists.{back, reversed, quarters, byFours, pickFour, choose, turned, alternated}
 
 -- the quarter of 4n places that i is in, counted as it was laid out
 pub data Quarter (n i : ℕ) : Type 0 where
@@ -29,6 +31,14 @@ quarter n i l =
     ]
 
 module _ {A : Type 0} where
+  -- a choice between the places below n and those from n on
+  pub choose-below : (i n : ℕ) (a b v : A) → (i < n → a ≡ v) → (n ≤ i → b ≡ v) → choose (ltb i n) a b ≡ v
+  choose-below i n a b v low high = by (ltb i n) refl
+    where
+      by : (t : Bool) → ltb i n ≡ t → choose t a b ≡ v
+      by true e = low (ltb→lt i n (subst T (sym e) tt))
+      by false e = high (nltb→le i n (subst (λ (t : Bool). T (not t)) (sym e) tt))
+
   pub length-back : (n : ℕ) (f : ℕ → A) → length (back n f) ≡ n
   unfolding back
   length-back n f = length-tab n (λ k. f (n - 1 - k))
@@ -57,6 +67,19 @@ module _ {A : Type 0} where
         let place : i ≡ n + (i - n) = omega arith in
         ap (λ (m : ℕ). getD (tab n f ++ back n h) m d) place
         ∙ getD-after (tab n f) (back n h) n (i - n) d (length-tab n f) ∙ getD-back n h (i - n) k d (omega arith)
+
+  -- a list whose entries are those is that list
+  pub there-back-is : (n : ℕ) (f h : ℕ → A) (d : A) (xs : List A) → length xs ≡ 2 * n → ((k : ℕ) → k < n → f k ≡ getD xs k d)
+      → ((i k : ℕ) → k < n → i + suc k ≡ 2 * n → h k ≡ getD xs i d) → tab n f ++ back n h ≡ xs
+  there-back-is n f h d xs whole there backwards =
+      ext-getD d (tab n f ++ back n h) xs (length-there-back n f h ∙ sym whole)
+      (λ i l.
+      elim (decLt i n) [
+        | yes b ↦ there-entry n f h d i b ∙ there i b
+        | no b ↦
+            let below : i < 2 * n = omega (arith, length-there-back n f h) in
+            back-entry n f h d i (2 * n - suc i) (omega arith) (omega arith) ∙ backwards i (2 * n - suc i) (omega arith) (omega arith)
+      ])
 
   module _ (a b c d : ℕ → A) (n : ℕ) where
     at-fours : (m r : ℕ) → m % 4 ≡ r → m / 4 ≡ n → byFours a b c d m ≡ pickFour a b c d r n
@@ -135,3 +158,13 @@ module _ {A : Type 0} where
     pub getD-alternated : (k : ℕ) (d : A) → k < length x → getD (alternated O x) k d ≡ turned O k (at O x k)
     unfolding alternated
     getD-alternated k d l = getD-tab (length x) (λ i. turned O i (at O x i)) k d l
+
+  -- read backwards twice, a list is as it was
+  pub reversed-twice : (O : Ops A) (x : List A) → reversed O (reversed O x) ≡ x
+  reversed-twice O x =
+      let whole : length (reversed O x) ≡ length x = length-reversed O x in
+      let again : length (reversed O (reversed O x)) ≡ length (reversed O x) = length-reversed O (reversed O x) in
+      ext-getD (O .none) (reversed O (reversed O x)) x (again ∙ whole)
+      (λ k l.
+      getD-reversed O (reversed O x) k (length x - suc k) (O .none) (omega arith)
+      ∙ getD-reversed O x (length x - suc k) k (O .none) (omega arith))

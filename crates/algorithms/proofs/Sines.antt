@@ -1,22 +1,24 @@
 -- The sines around the cosines, over residues: DST-II is DCT-II of the entries negated by turns, read backwards; DST-III is DCT-III of the entries
--- read backwards, negated by turns. Assumes nothing.
-use mathlib.Core.Path.{_≡_, refl, sym, _∙_, ap, ap₂}
+-- read backwards, negated by turns (of-dst3-part has its outputs over the ring of residues). Assumes nothing.
+use mathlib.Core.Path.{_≡_, refl, sym, _∙_, ap, ap₂, subst}
 use mathlib.Core.List.{List}
 use Prim.Native.Nat.{ℕ, zero, suc, _+_, _*_, _-_, _%_, _<_}
 use native.Mathlib.Nat as Nat
 use native.Mathlib.Omega.{arith}
 use lib.ListN.{length}
 use Rattle.ring.proofs.Factor.{factor-positive}
+use Rattle.ring.proofs.Sign.{sign}
 use Rattle.ring.proofs.Sines.{second-sines, third-sines}
 use Rattle.ring.proofs.Sum as Sum
 use Rattle.ring.proofs.Table.{is-tab}
+use Rattle.ring.proofs.Third.{third}
 use Rattle.ring.proofs.Turn as Turn
 use Rattle.ring.proofs.Modular.{of, of-add, of-mul}
 use Rattle.sums.specs.Residue.{p, half}
 use Rattle.sums.specs.Angle.{sinTurn}
 use Rattle.sums.specs.Transform.{sum, entry, dct2Sum, dst2Sum, dct3Sum, dst3Sum}
 use Rattle.sums.proofs.Constants.{above, Zp}
-use Rattle.sums.proofs.Lengths.{Length, turnAt, half-at, sin-at, of-products}
+use Rattle.sums.proofs.Lengths.{Length, turnAt, half-at, sin-at, part-length, of-products}
 use Rattle.sums.proofs.Outputs.{residues, length-dct2, dct2-residues, length-dct3, dct3-residues}
 use Rattle.algorithms.specs.Lists.{reversed, turned, turnedBy, alternated}
 use Rattle.algorithms.specs.Residues.{residueOps}
@@ -25,7 +27,7 @@ use Rattle.algorithms.proofs.Lists.{length-reversed, getD-reversed, len
 use Rattle.algorithms.proofs.Thirds.{is-output, last-sine, of-dct3-part}
 
 -- a reduced number stays so
-turned-reduced : (k v : ℕ) → v % p ≡ v → turned residueOps k v % p ≡ turned residueOps k v
+pub turned-reduced : (k v : ℕ) → v % p ≡ v → turned residueOps k v % p ≡ turned residueOps k v
 turned-reduced k v reduced = by (k % 2)
   where
     by : (r : ℕ) → turnedBy residueOps r v % p ≡ turnedBy residueOps r v
@@ -107,3 +109,13 @@ dst2-by-dct2 = second-is
 
 pub dst3-by-dct3 : (x : List ℕ) → Length (length x) → alternated residueOps (dct3Sum (reversed residueOps x)) ≡ dst3Sum x
 dst3-by-dct3 = third-is
+
+-- so its outputs are sums over the ring of residues, u lengths m being the length n
+pub of-dst3-part : (u m n : ℕ) → u * m ≡ n → (L : Length n) (x : List ℕ) → length x ≡ m → (k : ℕ) → k < m
+    → residues (dst3Sum x) k ≡ Zp .mul (sign Zp k) (third Zp n (turnAt n L) u m (residues (reversed residueOps x)) k)
+of-dst3-part u m n parts L x N k l =
+    let inner : length (dct3Sum (reversed residueOps x)) ≡ m = length-dct3 (reversed residueOps x) ∙ length-reversed residueOps x ∙ N in
+    ap (λ (y : List ℕ). residues y k) (sym (dst3-by-dct3 x (subst Length (sym N) (part-length u m n parts L))))
+    ∙ ap (of p) (getD-alternated residueOps (dct3Sum (reversed residueOps x)) k 0 (omega arith))
+    ∙ of-turned k (entry (dct3Sum (reversed residueOps x)) k)
+    (of-dct3-part u m n parts L (reversed residueOps x) (length-reversed residueOps x ∙ N) k l)

@@ -22,7 +22,7 @@ use Rattle.algorithms.proofs.Three.{dct3-split}
 twice : (k : ℕ) → 2 ^ suc k ≡ 2 * 2 ^ k
 twice k = omega (arith, Nat.two-pow-succ k)
 
-four-times : (k : ℕ) → 2 ^ suc (suc k) ≡ 4 * 2 ^ k
+pub four-times : (k : ℕ) → 2 ^ suc (suc k) ≡ 4 * 2 ^ k
 four-times k = omega (arith, twice (suc k), twice k)
 
 -- a list of 2^k entries has a length of the angles

@@ -11,23 +11,19 @@ use Rattle.ring.proofs.SplitThree as Split
 use Rattle.ring.proofs.Table.{getD-tab}
 use Rattle.ring.proofs.Third as Third
 use Rattle.ring.proofs.Turn as Turn
-use Rattle.ring.proofs.Modular.{of, of-mod, of-add}
+use Rattle.ring.proofs.Modular.{of}
 use Rattle.sums.specs.Residue.{p}
 use Rattle.sums.specs.Transform.{entry, dct3Sum}
-use Rattle.sums.proofs.Constants.{above, Zp}
+use Rattle.sums.proofs.Constants.{Zp}
 use Rattle.sums.proofs.Lengths.{Length, turnAt}
 use Rattle.sums.proofs.Outputs.{residues, length-dct3, dct3-residues}
 use Rattle.algorithms.specs.Residues.{residueOps, residueTwiddles}
 use Rattle.algorithms.specs.Split.{inputEvens, inputOne, inputThree, oneInput, threeInput, sineValue, lowerDct4, upperDct4, mergeThree}
-use Rattle.algorithms.proofs.Carried.{reduced-only, of-sum, of-difference, of-turned, of-along, of-across}
+use Rattle.algorithms.proofs.Carried.{is-entry, of-double, of-sum, of-difference, of-turned, of-along, of-across}
 use Rattle.algorithms.proofs.Inputs.{length-evens, length-one, length-three}
 use Rattle.algorithms.proofs.Lists.{Quarter, first, second, third, fourth, quarter, length-quarters, quarters-first, quarters-second, quarters-third, quarters-fourth}
 use Rattle.algorithms.proofs.Thirds.{of-dct3-part}
 use Rattle.algorithms.proofs.Twiddles.{of-twiddle-cos, of-twiddle-sin}
-
--- twice a number
-of-double : (a : ℕ) → of p (residueOps .double a) ≡ Zp .add (of p a) (of p a)
-of-double a = let twice : 2 * a ≡ a + a = omega arith in of-mod p (2 * a) ∙ ap (of p) twice ∙ of-add p above a a
 
 -- q is suc r here
 module _ (r : ℕ) (L : Length (4 * suc r)) (x : List ℕ) where
@@ -121,8 +117,7 @@ module _ (r : ℕ) (L : Length (4 * suc r)) (x : List ℕ) where
     -- a reduced number whose residue is that of the outer sum at i
     settled : (i v : ℕ) → i < n → v % p ≡ v → of p v ≡ Third.third Zp n W 1 n (residues x) i → v ≡ entry (dct3Sum x) i
     settled i v l reduced is =
-        reduced-only v (entry (dct3Sum x) i) reduced (Nat.mod-eq-of-lt (dct3-residues x .below i (omega (arith, length-dct3 x, N))))
-        (is ∙ sym (of-dct3-part 1 n n (Nat.one-mul n) L x N i l))
+        is-entry (dct3Sum x) (dct3-residues x) i v (omega (arith, length-dct3 x, N)) reduced (is ∙ sym (of-dct3-part 1 n n (Nat.one-mul n) L x N i l))
 
     -- the entries as they were laid out
     merged-first : (k : ℕ) → k < q → entry merged k ≡ residueOps .add (entry T k) (lowerAt k)

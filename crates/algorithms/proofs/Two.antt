@@ -26,7 +26,7 @@ use Rattle.algorithms.specs.Residues.{residueOps, residueTwiddles}
 use Rattle.algorithms.specs.Split.{across, halfLow, halfHigh, lower, upper, cosInput, sinInput, inputDct2, inputDct4Even, inputDct4Odd, sinOutput, afterEven, beforeEven, mergedTwo, mergeTwo}
 use Rattle.algorithms.proofs.Inputs as Inputs
 use Rattle.algorithms.proofs.Lists.{getD-back, there-entry, back-entry, by-fours-zero, by-fours-one, by-fours-two, by-fours-three}
-use Rattle.algorithms.proofs.Carried.{reduced-only, of-sum, of-difference, of-negative, of-turned, of-along, of-across, of-dct2-at, of-dct2-part}
+use Rattle.algorithms.proofs.Carried.{is-entry, of-sum, of-difference, of-negative, of-turned, of-along, of-across, of-dct2-at, of-dct2-part}
 use Rattle.algorithms.proofs.Twiddles.{of-twiddle-cos, of-twiddle-sin}
 
 dct2-reduced : (y : List ℕ) (k : ℕ) → k < length y → entry (dct2Sum y) k % p ≡ entry (dct2Sum y) k
@@ -122,8 +122,7 @@ module _ (q : ℕ) (L : Length (4 * q)) (x : List ℕ) where
     -- what has the residue of an output, and is reduced, is that output
     is-output : (m v : ℕ) → m < 4 * q → v % p ≡ v → of p v ≡ SplitTwo.whole Zp q W (residues x) m → v ≡ entry (dct2Sum x) m
     is-output m v l reduced e =
-        reduced-only v (entry (dct2Sum x) m) reduced (dct2-reduced x m (omega arith))
-        (e ∙ sym (of-dct2-at (4 * q) L x N m l))
+        is-entry (dct2Sum x) (dct2-residues x) m v (omega (arith, length-dct2 x, N)) reduced (e ∙ sym (of-dct2-at (4 * q) L x N m l))
 
     abbrev merged : ℕ → ℕ
     merged = mergedTwo residueOps q (dct2Sum half) (dct2Sum cosines) (dct2Sum sines)

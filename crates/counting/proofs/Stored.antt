@@ -1,10 +1,10 @@
 -- A loop that stores residues from the front: after k places these hold residues (Stored). A store of a residue makes it one place more
 -- (stored-more), and at the end every entry is a residue (stored-all). One store into residues leaves residues (residues-set). The product of a
--- u32 and a residue fits a u64 (product-fits). Assumes nothing.
+-- u32 and a residue fits a u64 (product-fits), and it does not matter whether a factor was reduced before (factor-reduced). Assumes nothing.
 use mathlib.Core.Bool.{Bool, true, false}
 use mathlib.Core.List.{List}
-use mathlib.Core.Path.{_≡_, refl, _∙_}
-use Prim.Native.Nat.{ℕ, _+_, _*_, _≤_, _<_}
+use mathlib.Core.Path.{_≡_, refl, ap, _∙_}
+use Prim.Native.Nat.{ℕ, _+_, _*_, _%_, _≤_, _<_}
 use native.Mathlib.Nat as Nat
 use native.Mathlib.Omega.{arith}
 use borrow.Author.Count.{below-more}
@@ -12,6 +12,7 @@ use borrow.Author.Tests.{eqb-true, eqb-false}
 use lib.Dec.{eqb}
 use lib.ListN.{length, getD, set, length-set}
 use lib.Seq.{getD-set-same, getD-set-other}
+use Rattle.ring.proofs.Modular.{mul-mod}
 use Rattle.sums.specs.Residue.{p, Residues}
 
 pub record Stored (d : List ℕ) (k : ℕ) (out : List ℕ) : Type 0 where
@@ -52,3 +53,6 @@ product-fits a b small residue =
     let right : b ≤ p = omega arith in
     let fits : a * b ≤ 4294967295 * p = Nat.mul-le-mul left right in
     omega arith
+
+pub factor-reduced : (a b : ℕ) → a * (b % p) % p ≡ b * a % p
+factor-reduced a b = mul-mod a b p ∙ ap (λ (x : ℕ). x % p) (Nat.mul-comm a b)

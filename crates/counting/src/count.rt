@@ -2,6 +2,7 @@
 ghost use mathlib.Core.Path.{_≡_};
 ghost use Prim.Native.Nat.{_+_, min};
 ghost use lib.Dec.{eqb};
+ghost use Rattle.counting.specs.Added.{Empty, Added};
 ghost use Rattle.counting.specs.Counted.{one};
 
 pub struct Count {
@@ -23,7 +24,7 @@ fn sum(a: u64, b: u64) -> u64
 }
 
 pub fn none() -> Count
-    ensures { λ r. ⌜ (r .all ≡ 0) × (r .good ≡ 0) ⌝ }
+    ensures { λ r. ⌜ Empty r ⌝ }
 {
     Count { all: 0, good: 0 }
 }
@@ -40,7 +41,7 @@ pub fn answer(given: u32, right: u32) -> Count
 }
 
 pub fn more(a: Count, b: Count) -> Count
-    ensures { λ r. ⌜ (r .all ≡ min (a .all + b .all) 18446744073709551615) × (r .good ≡ min (a .good + b .good) 18446744073709551615) ⌝ }
+    ensures { λ r. ⌜ Added a b r ⌝ }
 {
     Count {
         all: sum(a.all, b.all),
@@ -48,7 +49,9 @@ pub fn more(a: Count, b: Count) -> Count
     }
 }
 
-pub fn nothing() -> Tally {
+pub fn nothing() -> Tally
+    ensures { λ r. ⌜ Empty (r .answers) × Empty (r .outputs) × Empty (r .lent) ⌝ }
+{
     Tally {
         answers: none(),
         outputs: none(),
@@ -57,7 +60,9 @@ pub fn nothing() -> Tally {
 }
 
 // One call: its answer, which should be `right`, and the lent entries that it left.
-pub fn called(given: u32, right: u32, lent: Count) -> Tally {
+pub fn called(given: u32, right: u32, lent: Count) -> Tally
+    ensures { λ r. ⌜ (r .answers .all ≡ 1) × (r .answers .good ≡ one (eqb given right)) × Empty (r .outputs) × (r .lent ≡ lent) ⌝ }
+{
     Tally {
         answers: answer(given, right),
         outputs: none(),
@@ -66,7 +71,9 @@ pub fn called(given: u32, right: u32, lent: Count) -> Tally {
 }
 
 // Lent entries alone.
-pub fn lent_entries(lent: Count) -> Tally {
+pub fn lent_entries(lent: Count) -> Tally
+    ensures { λ r. ⌜ Empty (r .answers) × Empty (r .outputs) × (r .lent ≡ lent) ⌝ }
+{
     Tally {
         answers: none(),
         outputs: none(),
@@ -74,7 +81,9 @@ pub fn lent_entries(lent: Count) -> Tally {
     }
 }
 
-pub fn together(a: Tally, b: Tally) -> Tally {
+pub fn together(a: Tally, b: Tally) -> Tally
+    ensures { λ r. ⌜ Added (a .answers) (b .answers) (r .answers) × Added (a .outputs) (b .outputs) (r .outputs) × Added (a .lent) (b .lent) (r .lent) ⌝ }
+{
     Tally {
         answers: more(a.answers, b.answers),
         outputs: more(a.outputs, b.outputs),
@@ -83,7 +92,9 @@ pub fn together(a: Tally, b: Tally) -> Tally {
 }
 
 // Two calls and the outputs that were compared after them.
-pub fn pair(a: Tally, b: Tally, outputs: Count) -> Tally {
+pub fn pair(a: Tally, b: Tally, outputs: Count) -> Tally
+    ensures { λ r. ⌜ Added (a .answers) (b .answers) (r .answers) × (r .outputs ≡ outputs) × Added (a .lent) (b .lent) (r .lent) ⌝ }
+{
     Tally {
         answers: more(a.answers, b.answers),
         outputs: outputs,

@@ -3,9 +3,11 @@ ghost use mathlib.Core.Path.{_≡_};
 ghost use Prim.Native.Nat.{_*_, _%_, _≤_, _<_};
 ghost use lib.ListN.{length};
 ghost use Rattle.sums.specs.Residue.{p, Residues};
+ghost use Rattle.sums.specs.Transform.{timesHalfLength};
 ghost use Rattle.counting.specs.Counted.{alike};
-ghost use Rattle.counting.specs.Lent.{markOrZero, marked, scaled};
+ghost use Rattle.counting.specs.Lent.{markOrZero, marked};
 use crate::count::Count;
+use residue::arithmetic::reduce;
 
 // Residues as if by chance, by the generator of Park and Miller.
 pub fn fill(start: u64, out: &mut [u32])
@@ -14,7 +16,7 @@ pub fn fill(start: u64, out: &mut [u32])
     let mut state = start % 2147483647;
     for i in 0..out.len() {
         state = state * 48271 % 2147483647;
-        out[i] = (state % 998244353) as u32;
+        out[i] = reduce(state);
     }
 }
 
@@ -39,6 +41,7 @@ pub fn fill_with(start: u64, place: usize, value: u32, out: &mut [u32])
 // The same entries in two slices.
 pub fn fill_two(start: u64, place: usize, value: u32, first: &mut [u32], second: &mut [u32])
     requires { ⌜ length (now first) ≡ length (now second) ⌝ }
+    ensures { λ _. ⌜ (now (second .exit) ≡ now (first .exit)) × (value < p → Residues (now (first .exit))) ⌝ }
 {
     fill_with(start, place, value, first);
     lending::copy(first, second);
@@ -84,15 +87,15 @@ fn times(a: u32, factor: u64) -> u32
     requires { ⌜ factor < p ⌝ }
     ensures { λ r. ⌜ r ≡ a * factor % p ⌝ }
 {
-    (a as u64 * factor % 998244353) as u32
+    reduce(a as u64 * factor)
 }
 
 // Every one of n entries times n/2.
 pub fn scale(out: &mut [u32])
     requires { ⌜ length (now out) ≤ 1024 ⌝ }
-    ensures { λ _. ⌜ now (out .exit) ≡ scaled (now (out .entry)) ⌝ }
+    ensures { λ _. ⌜ now (out .exit) ≡ timesHalfLength (now (out .entry)) ⌝ }
 {
-    let factor = out.len() as u64 * 499122177 % 998244353;
+    let factor = reduce(out.len() as u64 * 499122177) as u64;
     for i in 0..out.len() {
         out[i] = times(out[i], factor);
     }

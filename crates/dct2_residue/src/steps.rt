@@ -80,7 +80,7 @@ pub fn split(table: &[u32], q: usize, x: &[u32], s: &mut [u32])
 
 // Merges the three results. The first few outputs and the last are done outside of the loop.
 pub fn merge(q: usize, s: &[u32], x: &mut [u32])
-    requires { ⌜ (1 ≤ q) × (q ≤ 256) × (Residues (now s)) × (length (now s) ≡ 4 * q) × (length (now x) ≡ 4 * q) ⌝ }
+    requires { ⌜ (1 ≤ q) × (q ≤ 512) × (Residues (now s)) × (length (now s) ≡ 4 * q) × (length (now x) ≡ 4 * q) ⌝ }
     ensures { λ r. ⌜ now (x .exit) ≡ mergeTwo residueOps q (part 0 (2 * q) (now (s .entry))) (part (2 * q) (3 * q) (now (s .entry))) (part (3 * q) (4 * q) (now (s .entry))) ⌝ }
 {
     x[0] = s[0];

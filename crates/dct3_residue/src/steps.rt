@@ -28,7 +28,7 @@ pub struct Outputs {
 
 // Splits the buffer into vectors of half, quarter and quarter length, which follow each other in scratch.
 pub fn split(q: usize, x: &[u32], s: &mut [u32])
-    requires { ⌜ (1 ≤ q) × (q ≤ 256) × (Residues (now x)) × (length (now x) ≡ 4 * q) × (length (now s) ≡ 4 * q) ⌝ }
+    requires { ⌜ (1 ≤ q) × (q ≤ 512) × (Residues (now x)) × (length (now x) ≡ 4 * q) × (length (now s) ≡ 4 * q) ⌝ }
     ensures { λ r. ⌜ now (s .exit) ≡ splitThree residueOps q (now (x .entry)) ⌝ }
 {
     s[0] = x[0];

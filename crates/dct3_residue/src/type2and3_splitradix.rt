@@ -44,3 +44,11 @@ pub fn dst3(table: &[u32], x: &mut [u32], s: &mut [u32])
     dct3(table, x, s);
     alternate(x);
 }
+
+// The same of a part of s.
+pub fn dst3_part(table: &[u32], s: &mut [u32], from: usize, to: usize, x: &mut [u32])
+    requires { ⌜ PartInPlace (now table) (now s) from to (now x) ⌝ }
+    ensures { λ r. ⌜ now (s .exit) ≡ over dst3Sum from to (now (s .entry)) ⌝ }
+{
+    dst3(table, &mut s[from..to], &mut x[0..to - from]);
+}

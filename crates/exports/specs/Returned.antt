@@ -4,10 +4,22 @@ use mathlib.Core.List.{List}
 use Prim.Native.Nat.{ℕ}
 use Rattle.answers.specs.declared.Answer.{Answer}
 use Rattle.answers.specs.Number.{answerNumber}
-use Rattle.sums.specs.Call.{Outcome, outcome}
+use Rattle.sums.specs.Call.{Outcome, outcome, Spread, spread}
 
 -- the number is that of the promised answer, where 0 is done, and both slices hold what is promised
 pub record Returned (number : ℕ) (buffer scratch : List ℕ) (promised : Outcome) : Type 0 where
   pub answer : Answer
   pub numbered : number ≡ answerNumber answer
   pub left : outcome answer buffer scratch ≡ promised
+
+-- the same of a call that leaves two outputs and its scratch
+pub record ReturnedSpread (number : ℕ) (first second scratch : List ℕ) (promised : Spread) : Type 0 where
+  pub answer : Answer
+  pub numbered : number ≡ answerNumber answer
+  pub left : spread answer first second scratch ≡ promised
+
+-- the same of a call that stores nothing
+pub record ReturnedAnswer (number : ℕ) (promised : Answer) : Type 0 where
+  pub answer : Answer
+  pub numbered : number ≡ answerNumber answer
+  pub left : answer ≡ promised

@@ -1,11 +1,13 @@
--- A transform in place that is answered `Done` has passed its tests (answered-accepted, accepted-answered). A call that does its work exactly where it is answered so has the
--- outcome that is promised (outcome-done, outcome-refused). Assumes nothing.
+-- A call that is answered `Done` has passed its tests (done-passed; in place answered-accepted, accepted-answered), and its length is at most 1024 (accepted-small). A call
+-- that does its work exactly where it is answered so has the outcome that is promised (outcome-of-done, outcome-of-refused; outcome-done, outcome-refused). Assumes nothing.
 use mathlib.Core.Bool.{Bool, true, false}
 use mathlib.Core.List.{List}
 use mathlib.Core.Path.{_≡_, sym, _∙_, ap, ap₂, subst}
-use Prim.Native.Nat.{ℕ, _≤_}
+use Prim.Native.Nat.{ℕ, _^_, _≤_}
+use native.Mathlib.Omega.{arith}
 use lib.Dec.{T}
 use lib.ListN.{length}
+use lib.Pow.{pow-mono}
 use Rattle.answers.specs.Refuse.{transformAnswer}
 use Rattle.answers.specs.declared.Refusal.{Refusal}
 use Rattle.answers.specs.declared.Answer.{Answer}
@@ -16,26 +18,32 @@ use Rattle.sums.specs.Bad.{soundEntries}
 use Rattle.sums.specs.Call.{inPlaceAnswer, outcome, outcomeOf, inPlace}
 use Rattle.sums.specs.Lengths.{lengthsFit}
 use Rattle.sums.specs.Size.{allowedSize}
+use Rattle.sums.proofs.Sizes.{allowed-exponent, exponent-allowed}
 use Rattle.lending.specs.Accepted.{Accepted}
 use Rattle.lending.proofs.Bad.{sound-residues, residues-sound}
 use Rattle.lending.proofs.Lengths.{fit-lengths, lengths-fit}
-use Rattle.lending.proofs.Sizes.{allowed-exponent, exponent-allowed}
 
 abbrev isDone : Answer → Bool
 isDone Done = true
 isDone (No r) = false
 
 -- only where all tests hold is it done
-all-passed : (size lengths residues : Bool) → T (isDone (transformAnswer size lengths residues true)) → T size × T lengths × T residues
-all-passed true true true t = (tt, tt, tt)
-all-passed true true false t = absurd t
-all-passed true false residues t = absurd t
-all-passed false lengths residues t = absurd t
+all-passed : (size lengths residues window : Bool) → T (isDone (transformAnswer size lengths residues window))
+    → T size × T lengths × T residues × T window
+all-passed true true true true t = (tt, tt, tt, tt)
+all-passed true true true false t = absurd t
+all-passed true true false window t = absurd t
+all-passed true false residues window t = absurd t
+all-passed false lengths residues window t = absurd t
+
+pub done-passed : (size lengths residues window : Bool) → transformAnswer size lengths residues window ≡ Done
+    → T size × T lengths × T residues × T window
+done-passed size lengths residues window e = all-passed size lengths residues window (subst (λ (a : Answer). T (isDone a)) (sym e) tt)
 
 pub answered-accepted : (least n : ℕ) (buffer : List ℕ) (scratchLength : ℕ) → inPlaceAnswer least n buffer scratchLength ≡ Done
     → Accepted least n buffer scratchLength
 answered-accepted least n buffer scratchLength e =
-    let tests = all-passed (allowedSize least n) (lengthsFit (length buffer) n scratchLength n) (soundEntries buffer) (subst (λ (a : Answer). T (isDone a)) (sym e) tt) in
+    let tests = done-passed (allowedSize least n) (lengthsFit (length buffer) n scratchLength n) (soundEntries buffer) true e in
     let size = allowed-exponent least n (tests .0) in
     let fit = fit-lengths (length buffer) n scratchLength n (tests .1) in
     record {
@@ -48,20 +56,29 @@ answered-accepted least n buffer scratchLength e =
       residues = sound-residues buffer (tests .2);
     }
 
--- the outcome of a call that asked, did what it promises where the answer was `Done`, and nothing else
-module _ (least n : ℕ) (transform : List ℕ → List ℕ) (buffer scratch : List ℕ) {answer : Answer} (asked : answer ≡ inPlaceAnswer least n buffer (length scratch)) where
-  by-answer : outcomeOf transform n buffer scratch answer ≡ inPlace least transform n buffer scratch
-  by-answer = ap (outcomeOf transform n buffer scratch) asked
+pub accepted-small : {least n k : ℕ} {buffer : List ℕ} → Accepted least n buffer k → n ≤ 1024
+accepted-small a = let most : 2 ^ a .exponent ≤ 1024 = pow-mono (a .small) in omega (arith, a .power)
 
+-- the outcome of a call that asked, did what it promises where the answer was `Done`, and nothing else
+module _ (transform : List ℕ → List ℕ) (n : ℕ) (buffer scratch : List ℕ) {answer decided : Answer} (asked : answer ≡ decided) where
+  pub outcome-of-done : answer ≡ Done → {buffer' scratch' : List ℕ} → buffer' ≡ transform buffer → scratch' ≡ cleared 0 n scratch
+      → outcome answer buffer' scratch' ≡ outcomeOf transform n buffer scratch decided
+  outcome-of-done done stored zeroed =
+      ap₂ (outcome answer) stored zeroed ∙ ap (λ (a : Answer). outcome a (transform buffer) (cleared 0 n scratch)) done
+      ∙ ap (outcomeOf transform n buffer scratch) (sym done ∙ asked)
+
+  pub outcome-of-refused : (r : Refusal) → answer ≡ No r → outcome answer buffer scratch ≡ outcomeOf transform n buffer scratch decided
+  outcome-of-refused r refused =
+      ap (λ (a : Answer). outcome a buffer scratch) refused ∙ ap (outcomeOf transform n buffer scratch) (sym refused ∙ asked)
+
+-- the same of a transform in place
+module _ (least n : ℕ) (transform : List ℕ → List ℕ) (buffer scratch : List ℕ) {answer : Answer} (asked : answer ≡ inPlaceAnswer least n buffer (length scratch)) where
   pub outcome-done : answer ≡ Done → {buffer' scratch' : List ℕ} → buffer' ≡ transform buffer → scratch' ≡ cleared 0 n scratch
       → outcome answer buffer' scratch' ≡ inPlace least transform n buffer scratch
-  outcome-done done stored zeroed =
-      ap₂ (outcome answer) stored zeroed ∙ ap (λ (a : Answer). outcome a (transform buffer) (cleared 0 n scratch)) done
-      ∙ ap (outcomeOf transform n buffer scratch) (sym done) ∙ by-answer
+  outcome-done = outcome-of-done transform n buffer scratch asked
 
   pub outcome-refused : (r : Refusal) → answer ≡ No r → outcome answer buffer scratch ≡ inPlace least transform n buffer scratch
-  outcome-refused r refused =
-      ap (λ (a : Answer). outcome a buffer scratch) refused ∙ ap (outcomeOf transform n buffer scratch) (sym refused) ∙ by-answer
+  outcome-refused = outcome-of-refused transform n buffer scratch asked
 
 -- a call whose tests are passed is answered `Done`
 pub accepted-answered : {least n : ℕ} {buffer : List ℕ} {scratchLength : ℕ} → Accepted least n buffer scratchLength

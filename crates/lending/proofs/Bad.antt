@@ -1,15 +1,17 @@
 -- Laws of `firstBad` and `soundEntries`: the entries before the first bad one are below p (first-bad-below), that one is p or more
 -- (first-bad-at), no other place is so (first-bad-only), and entries are sound exactly where all are residues
--- (sound-residues, residues-sound). Assumes nothing.
-use mathlib.Core.Bool.{Bool, true, false}
+-- (sound-residues, residues-sound). A loop over all entries remembers whether it has seen a bad one (seen-more, seen-bad, seen-all). Assumes nothing.
+use mathlib.Core.Bool.{Bool, true, false, not}
 use mathlib.Core.List.{List, [], _∷_}
 use mathlib.Core.Logic.{_⊎_, inl, inr, ⊎-elim}
 use mathlib.Core.Path.{_≡_, refl}
-use Prim.Native.Nat.{ℕ, zero, suc, _≤_, _<_}
+use Prim.Native.Nat.{ℕ, zero, suc, _+_, _≤_, _<_}
 use native.Mathlib.Omega.{arith}
 use lib.Dec.{T, leb, eqb→eq, eqb-refl}
 use lib.ListN.{length, getD}
+use borrow.Author.Count.{below-more}
 use borrow.Author.Tests.{leb-true, leb-false}
+use Rattle.ring.proofs.Below.{true-is, false-is}
 use Rattle.sums.specs.Residue.{p, Residues}
 use Rattle.sums.specs.Bad.{placeBy, firstBad, soundEntries}
 
@@ -59,3 +61,16 @@ sound-residues x t =
 pub residues-sound : (x : List ℕ) → Residues x → T (soundEntries x)
 unfolding soundEntries
 residues-sound x r = rw (← first-bad-only x (length x) (omega arith) (r .below) (λ l. omega arith)) (eqb-refl (length x))
+
+-- what a loop knows after i entries: it has seen a bad one, or none of them is bad
+abbrev pub Seen : Bool → List ℕ → ℕ → Type 0
+Seen true x i = (k : ℕ) × (k < length x) × (p ≤ getD x k 0)
+Seen false x i = (k : ℕ) → k < i → getD x k 0 < p
+
+pub seen-more : (bad : Bool) (x : List ℕ) (i : ℕ) → Seen bad x i → getD x i 0 < p → Seen bad x (i + 1)
+seen-more true x i seen here = seen
+seen-more false x i seen here = below-more (λ k. getD x k 0 < p) i seen here
+
+pub seen-all : (bad : Bool) (x : List ℕ) (i : ℕ) → Seen bad x i → length x ≤ i → not bad ≡ soundEntries x
+seen-all true x i seen past = false-is (soundEntries x) (λ t. omega (arith, sound-residues x t .below (seen .0) (seen .1), seen .2))
+seen-all false x i seen past = true-is (soundEntries x) (residues-sound x (record { below = λ k l. seen k (omega arith) }))

@@ -4,3 +4,5 @@ pub mod Lengths
 pub mod Bad
 pub mod Stores
 pub mod Accepted
+pub mod Front
+pub mod InTurn

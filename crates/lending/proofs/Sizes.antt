@@ -1,35 +1,15 @@
--- `allowedSize least` allows exactly the powersOfTwo of two from `least` to 1024. Assumes nothing.
+-- What the code's `match` on a size knows of `allowedSize`. Assumes nothing.
 use mathlib.Core.Bool.{false}
 use mathlib.Core.Path.{_≡_}
-use Prim.Native.Nat.{ℕ, _≤_, _<_, _^_}
+use Prim.Native.Nat.{ℕ, _<_}
 use native.Mathlib.Omega.{arith}
-use lib.Dec.{T, leb, leb→le, le→leb}
-use lib.Pow.{pow-mono}
+use lib.Dec.{leb}
 use types.Run.{OneOf}
 use Rattle.ring.specs.Finite.{tab}
 use Rattle.sums.specs.Size.{oneOf, powersOfTwo, powerOfTwo, allowedSize}
-use Rattle.ring.proofs.Below.{both-left, both-right, both-of}
-use Rattle.lending.proofs.Tests.{both-second, both-no-second, one-of-tab, tab-one-of, one-of-keys, keys-one-of}
+use Rattle.lending.proofs.Tests.{both-second, both-no-second, one-of-keys, keys-one-of}
 
-pub allowed-exponent : (least n : ℕ) → T (allowedSize least n) → (m : ℕ) × (m ≤ 10) × (n ≡ 2 ^ m) × (least ≤ n)
-unfolding allowedSize powerOfTwo powersOfTwo
-allowed-exponent least n t =
-    let found = one-of-tab 11 (λ k. 2 ^ k) n (both-right (leb least n) (powerOfTwo n) t) in
-    (found .0, omega arith, found .2, leb→le least n (both-left (leb least n) (powerOfTwo n) t))
-
-pub allowed-small : (least n : ℕ) → T (allowedSize least n) → n ≤ 1024
-allowed-small least n t =
-    let found = allowed-exponent least n t in
-    let most : 2 ^ found .0 ≤ 1024 = pow-mono (found .1) in
-    omega (arith, found .2)
-
-pub exponent-allowed : (least m : ℕ) → m ≤ 10 → least ≤ 2 ^ m → T (allowedSize least (2 ^ m))
-unfolding allowedSize powerOfTwo powersOfTwo
-exponent-allowed least m small enough =
-    both-of (leb least (2 ^ m)) (powerOfTwo (2 ^ m)) (le→leb least (2 ^ m) enough)
-    (tab-one-of 11 (λ k. 2 ^ k) m (omega arith))
-
--- what the code's `match` knows of n: it is one of the numbers listed, or none, or 0
+-- n is one of the numbers listed, or none, or 0
 pub listed-allowed : (least n : ℕ) → OneOf powersOfTwo n → leb least n ≡ allowedSize least n
 unfolding allowedSize powerOfTwo
 listed-allowed least n h = both-second (leb least n) (powerOfTwo n) (keys-one-of powersOfTwo n h)

@@ -1,13 +1,14 @@
 -- What the loops that overwrite a list from its front leave after n turns: `cleared z n`, and of a copy `copying n`. A turn's
--- store takes n to n + 1 (clear-more, copy-more), and a copy ends as `copied` (copying-is). Over any type of entry, so that
+-- store takes n to n + 1 (clear-more, copy-more), and a copy ends as `copied` (copying-is), which over as many entries is the list
+-- that was copied (copied-whole). Over any type of entry, so that
 -- the loops over residues and over floats cite the same laws. Assumes nothing.
-use mathlib.Core.List.{List, [], _∷_, _++_}
-use mathlib.Core.Path.{_≡_, refl, ap}
+use mathlib.Core.List.{List, [], _∷_, _++_, append-nil}
+use mathlib.Core.Path.{_≡_, refl, ap, _∙_}
 use Prim.Native.Nat.{ℕ, zero, suc, _+_, _<_}
 use native.Mathlib.Nat.{not-suc-le-zero, le-of-suc-le-suc}
 use native.Mathlib.Numerals.{add-one}
 use lib.ListN.{length, getD, take, drop, set}
-use lib.Seq.{take-length}
+use lib.Seq.{take-length, drop-length}
 use Rattle.ring.specs.Part.{cleared, copied}
 
 module _ {A : Type 0} where
@@ -37,3 +38,7 @@ module _ {A : Type 0} where
 
   pub copying-is : (from to : List A) → copying (length from) from to ≡ copied from to
   copying-is from to = rw take-length
+
+  -- a copy over as many entries leaves nothing of them
+  pub copied-whole : (from to : List A) → length from ≡ length to → copied from to ≡ from
+  copied-whole from to same = ap (λ (n : ℕ). from ++ drop n to) same ∙ ap (λ (t : List A). from ++ t) (drop-length to) ∙ append-nil from

@@ -1,20 +1,24 @@
 -- Laws of the tests that a call makes before it stores anything. A test that was passed holds (passed). Where the second test of
--- `both` is known, it is the first or false (both-second, both-no-second). `oneOf` holds of the entries of a list: of the numbers
--- that a `match` lists, as the check says it (one-of-keys, keys-one-of), and of a list given by its rule (one-of-tab, tab-one-of).
--- Assumes nothing.
-use mathlib.Core.Bool.{Bool, true, false, not, _||_}
+-- `both` is known, it is the first or false (both-second, both-no-second). `oneOf` holds of the numbers that a `match` lists, as the
+-- check says it (one-of-keys, keys-one-of).
+-- A call that asks its first tests of another call goes on to the rest only where those are passed (past-lengths, past-residues), and
+-- else gives the same refusal (lengths-refused, residues-refused). Assumes nothing.
+use mathlib.Core.Bool.{Bool, true, false, not}
 use mathlib.Core.List.{List, [], _∷_}
-use mathlib.Core.Logic.{_⊎_, inl, inr, ⊎-elim}
-use mathlib.Core.Path.{_≡_, refl, subst, subst⁻¹}
-use Prim.Native.Nat.{ℕ, zero, suc, _<_}
-use native.Mathlib.Nat.{not-suc-le-zero, le-of-suc-le-suc}
-use native.Mathlib.Omega.{arith}
-use lib.Dec.{T, eqb, eqb→eq, eqb-refl}
+use mathlib.Core.Logic.{inl, inr, ⊎-elim}
+use mathlib.Core.Path.{_≡_, refl, sym, _∙_, ap, subst, subst⁻¹}
+use Prim.Native.Nat.{ℕ}
+use lib.Dec.{T, eqb, eqb→eq}
 use borrow.Author.Tests.{not-false}
 use types.Run.{OneOf}
-use Rattle.ring.specs.Finite.{both, tab}
+use Rattle.answers.specs.Refuse.{transformAnswer}
+use Rattle.answers.specs.declared.Answer.{Answer}
+use Rattle.answers.specs.declared.Answer.the-variants.{Done, No}
+use Rattle.answers.specs.declared.Refusal.{Refusal}
+use Rattle.ring.specs.Finite.{both}
 use Rattle.ring.proofs.Below.{eq→eqb}
 use Rattle.sums.specs.Size.{oneOf}
+use Rattle.sums.proofs.Sizes.{or-cases, or-first, or-second}
 
 -- a call answered r, which by its contract is the test's value, and the caller went on past its `if !r`
 pub passed : {r test : Bool} → r ≡ test → not r ≡ false → T test
@@ -30,18 +34,6 @@ both-no-second a true none = absurd (none tt)
 both-no-second true false none = refl
 both-no-second false false none = refl
 
-or-cases : (a b : Bool) → T (a || b) → T a ⊎ T b
-or-cases true b t = inl tt
-or-cases false b t = inr t
-
-or-first : (a b : Bool) → T a → T (a || b)
-or-first true b t = tt
-or-first false b t = absurd t
-
-or-second : (a b : Bool) → T b → T (a || b)
-or-second true b t = tt
-or-second false b t = t
-
 pub one-of-keys : (ks : List ℕ) (n : ℕ) → T (oneOf ks n) → OneOf ks n
 unfolding oneOf
 one-of-keys [] n t = t
@@ -56,18 +48,44 @@ keys-one-of (k ∷ []) n e = or-first (eqb n k) false (eq→eqb n k e)
 keys-one-of (k ∷ l ∷ ks) n (inl e) = or-first (eqb n k) (oneOf (l ∷ ks) n) (eq→eqb n k e)
 keys-one-of (k ∷ l ∷ ks) n (inr h) = or-second (eqb n k) (oneOf (l ∷ ks) n) (keys-one-of (l ∷ ks) n h)
 
-pub one-of-tab : (count : ℕ) (f : ℕ → ℕ) (n : ℕ) → T (oneOf (tab count f) n) → (k : ℕ) × (k < count) × (n ≡ f k)
-unfolding oneOf tab
-one-of-tab zero f n t = absurd t
-one-of-tab (suc count) f n t =
-    ⊎-elim (λ h. (zero, omega arith, eqb→eq n (f zero) h))
-    (λ h. let found = one-of-tab count (λ k. f (suc k)) n h in (suc (found .0), omega arith, found .2))
-    (or-cases (eqb n (f zero)) (oneOf (tab count (λ k. f (suc k))) n) t)
+-- what is answered once the first tests have their answer
+abbrev after : Answer → Answer → Answer
+after Done rest = rest
+after (No r) rest = No r
 
-pub tab-one-of : (count : ℕ) (f : ℕ → ℕ) (k : ℕ) → k < count → T (oneOf (tab count f) (f k))
-unfolding oneOf tab
-tab-one-of zero f k l = absurd (not-suc-le-zero l)
-tab-one-of (suc count) f zero l = or-first (eqb (f zero) (f zero)) (oneOf (tab count (λ k. f (suc k))) (f zero)) (eqb-refl (f zero))
-tab-one-of (suc count) f (suc k) l =
-    or-second (eqb (f (suc k)) (f zero)) (oneOf (tab count (λ k. f (suc k))) (f (suc k)))
-    (tab-one-of count (λ k. f (suc k)) k (le-of-suc-le-suc l))
+after-lengths : (size lengths residues window : Bool)
+    → transformAnswer size lengths residues window ≡ after (transformAnswer size lengths true true) (transformAnswer true true residues window)
+after-lengths true true residues window = refl
+after-lengths true false residues window = refl
+after-lengths false lengths residues window = refl
+
+after-residues : (size lengths residues window : Bool)
+    → transformAnswer size lengths residues window ≡ after (transformAnswer size lengths residues true) (transformAnswer true true true window)
+after-residues true true true window = refl
+after-residues true true false window = refl
+after-residues true false residues window = refl
+after-residues false lengths residues window = refl
+
+module _ {answer first : Answer} (asked : answer ≡ first) (rest : Answer) where
+  goes-on : answer ≡ Done → after first rest ≡ rest
+  goes-on done = ap (λ (a : Answer). after a rest) (sym asked ∙ done)
+
+  stays : (r : Refusal) → answer ≡ No r → answer ≡ after first rest
+  stays r refused = refused ∙ ap (λ (a : Answer). after a rest) (sym refused ∙ asked)
+
+module _ (size lengths residues window : Bool) {answer : Answer} where
+  pub past-lengths : answer ≡ transformAnswer size lengths true true → answer ≡ Done
+      → transformAnswer size lengths residues window ≡ transformAnswer true true residues window
+  past-lengths asked done = after-lengths size lengths residues window ∙ goes-on asked (transformAnswer true true residues window) done
+
+  pub lengths-refused : answer ≡ transformAnswer size lengths true true → (r : Refusal) → answer ≡ No r
+      → answer ≡ transformAnswer size lengths residues window
+  lengths-refused asked r refused = stays asked (transformAnswer true true residues window) r refused ∙ sym (after-lengths size lengths residues window)
+
+  pub past-residues : answer ≡ transformAnswer size lengths residues true → answer ≡ Done
+      → transformAnswer size lengths residues window ≡ transformAnswer true true true window
+  past-residues asked done = after-residues size lengths residues window ∙ goes-on asked (transformAnswer true true true window) done
+
+  pub residues-refused : answer ≡ transformAnswer size lengths residues true → (r : Refusal) → answer ≡ No r
+      → answer ≡ transformAnswer size lengths residues window
+  residues-refused asked r refused = stays asked (transformAnswer true true true window) r refused ∙ sym (after-residues size lengths residues window)

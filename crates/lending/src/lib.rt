@@ -1,8 +1,10 @@
 // What a call asks of its size and of the slices that it is lent, before it changes any entry: document 01, "Sizes" and "Numbers
 // for no", 1 to 3. And the two stores that calls share: zeroing and copying. A test here answers and changes nothing.
 ghost use mathlib.Core.Path.{_≡_};
-ghost use Prim.Native.Nat.{_≤_};
+ghost use mathlib.Core.Bool.{true};
+ghost use Prim.Native.Nat.{_*_, _≤_};
 ghost use lib.ListN.{length};
+ghost use Rattle.answers.specs.Refuse.{transformAnswer};
 ghost use Rattle.sums.specs.Size.{allowedSize};
 ghost use Rattle.sums.specs.Lengths.{lengthsFit};
 ghost use Rattle.sums.specs.Bad.{firstBad, soundEntries};
@@ -45,27 +47,66 @@ pub fn first_bad(entries: &[u32]) -> usize
     i
 }
 
-// Whether every entry is a residue.
+// Whether every entry is a residue. Every call asks it of all that it reads, so the loop goes on past a bad entry: it has no exit in its midst, and takes several entries at a time.
 pub fn sound(entries: &[u32]) -> bool
     ensures { λ r. ⌜ r ≡ soundEntries (now (entries .entry)) ⌝ }
 {
-    first_bad(entries) == entries.len()
+    let mut bad = false;
+    for k in 0..entries.len() {
+        if entries[k] >= P {
+            bad = true;
+        }
+    }
+    !bad
 }
 
-// What a transform in place answers before it stores anything: 1, 2 and 3, in that order.
-pub fn in_place_answer(least: usize, n: usize, buffer: &[u32], scratch: usize) -> Answer
-    ensures { λ r. ⌜ r ≡ inPlaceAnswer least n (now (buffer .entry)) scratch ⌝ }
+// Size, then lengths: 1 and 2. A buffer of `times` times n is wanted, and scratch of `parts` times n is needed. Only an allowed size is multiplied.
+pub fn lengths_answer(
+    least: usize,
+    n: usize,
+    buffer: usize,
+    times: usize,
+    scratch: usize,
+    parts: usize,
+) -> Answer
+    requires { ⌜ (times ≤ 2) × (parts ≤ 2) ⌝ }
+    ensures { λ r. ⌜ r ≡ transformAnswer (allowedSize least n) (lengthsFit buffer (times * n) scratch (parts * n)) true true ⌝ }
 {
     if !allowed_size(least, n) {
         return Answer::No(Refusal::Size);
     }
-    if !lengths_fit(buffer.len(), n, scratch, n) {
+    if !lengths_fit(buffer, times * n, scratch, parts * n) {
         return Answer::No(Refusal::Length);
     }
-    if !sound(buffer) {
-        return Answer::No(Refusal::Residue);
-    }
     Answer::Done
+}
+
+// The same of a buffer whose entries are read, and then its residues: 1, 2 and 3.
+pub fn entries_answer(
+    least: usize,
+    n: usize,
+    buffer: &[u32],
+    times: usize,
+    scratch: usize,
+    parts: usize,
+) -> Answer
+    requires { ⌜ (times ≤ 2) × (parts ≤ 2) ⌝ }
+    ensures { λ r. ⌜ r ≡ transformAnswer (allowedSize least n) (lengthsFit (length (now (buffer .entry))) (times * n) scratch (parts * n)) (soundEntries (now (buffer .entry))) true ⌝ }
+{
+    let answer = lengths_answer(least, n, buffer.len(), times, scratch, parts);
+    if let Answer::Done = answer {
+        if !sound(buffer) {
+            return Answer::No(Refusal::Residue);
+        }
+    }
+    answer
+}
+
+// What a transform in place answers before it stores anything.
+pub fn in_place_answer(least: usize, n: usize, buffer: &[u32], scratch: usize) -> Answer
+    ensures { λ r. ⌜ r ≡ inPlaceAnswer least n (now (buffer .entry)) scratch ⌝ }
+{
+    entries_answer(least, n, buffer, 1, scratch, 1)
 }
 
 // Zeroes the first n entries, as every accepted call does to the scratch that it needed.

@@ -4,3 +4,4 @@ pub mod Listed
 pub mod Sums
 pub mod Room
 pub mod Parts
+pub mod Halved

@@ -1,4 +1,4 @@
--- Each defining sum of document 01 is a list of angle sums over the lent table: dct2-is, dst2-is, dct3-is, dst3-is, dct4-is.
+-- An angle sum by its terms (angle-sum-is). Each defining sum of document 01 is a list of angle sums over the lent table: dct2-is, dst2-is, dct3-is, dst3-is, dct4-is.
 -- A type 3 sum leaves out one entry, whose half is added afterwards. Assumes nothing.
 use mathlib.Core.Path.{_≡_, refl, sym, _∙_, ap, ap₂}
 use mathlib.Core.List.{List}
@@ -16,10 +16,10 @@ use Rattle.ring.proofs.Terms.{terms-ext}
 use Rattle.naive_residue.specs.AngleSums.{angleSum, angleSums}
 use Rattle.naive_residue.specs.Ready.{Ready}
 use Rattle.naive_residue.specs.Added.{addedToEach, addedAlternately}
-use Rattle.naive_residue.proofs.Parts.{OneLess}
+use Rattle.naive_residue.proofs.Parts.{Part}
 
 -- an angle sum of m entries, by its terms
-angle-sum-is : (n : ℕ) (x : List ℕ) (first step : ℕ) {m : ℕ} (f : ℕ → ℕ) → length x ≡ m
+pub angle-sum-is : (n : ℕ) (x : List ℕ) (first step : ℕ) {m : ℕ} (f : ℕ → ℕ) → length x ≡ m
     → ((i : ℕ) → i < length x → entry x i * cosTurn (first + i * step) n ≡ f i) → angleSum n x first step ≡ sum m f % p
 unfolding angleSum
 angle-sum-is n x first step f whole terms = ap (λ (s : ℕ). s % p) (terms-ext _+_ 0 (length x) terms) ∙ ap (λ (k : ℕ). sum k f % p) whole
@@ -83,7 +83,7 @@ module _ {unit : ℕ} {table x out : List ℕ} (ready : Ready 4 unit table x out
         (sin-place ready ((k + 1) * (2 * i + 1)) _ first quarters placed (omega arith)))))
 
     -- the part of x without its last entry
-    pub dst3-is : {part held last : List ℕ} {h : ℕ} → OneLess 0 x part → h ≡ entry x (length x - 1) * half % p
+    pub dst3-is : {part held last : List ℕ} {h : ℕ} → Part 0 (length x - 1) x part → h ≡ entry x (length x - 1) * half % p
         → held ≡ angleSums (length table) (length out) part first (2 * unit) unit (2 * unit) → last ≡ addedAlternately held h → last ≡ dst3Sum x
     unfolding dst3Sum angleSums addedAlternately
     dst3-is {part} {held} {last} {h} rest halved sums added =
@@ -97,7 +97,7 @@ module _ {unit : ℕ} {table x out : List ℕ} (ready : Ready 4 unit table x out
         ∙ times-more _ (entry x (length x - 1) * half) (sinTurn (2 * k + 1) 4) halved))
 
   -- the part of x without its first entry
-  pub dct3-is : {part held last : List ℕ} {h : ℕ} → OneLess 1 x part → h ≡ entry x 0 * half % p
+  pub dct3-is : {part held last : List ℕ} {h : ℕ} → Part 1 (length x - 1) x part → h ≡ entry x 0 * half % p
       → held ≡ angleSums (length table) (length out) part unit (2 * unit) unit (2 * unit) → last ≡ addedToEach held h → last ≡ dct3Sum x
   unfolding dct3Sum angleSums addedToEach
   dct3-is {part} {held} {last} {h} rest halved sums added =

@@ -1,3 +1,4 @@
 pub mod AngleSums
 pub mod Ready
 pub mod Added
+pub mod Doubled

@@ -2,20 +2,18 @@
 -- DCT-III of DCT-II is n/2 times the input. The length is n = suc m, so that the terms after the first are m.
 -- By the sums A t = Σ_{k<n} cs (2kt): 1 at an odd t (k and n − k cancel), 0 at an even t below 2n but for t = 0 (the length halves). Assumes nothing.
 use mathlib.Core.Path.{_≡_, refl, sym, _∙_, ap, ap₂}
-use mathlib.Core.Logic.{_≢_}
 use mathlib.Core.List.{[], _∷_}
 use Prim.Native.Nat.{ℕ, zero, suc, _+_, _*_, _-_, _^_, _<_}
 use native.Mathlib.Nat as Nat
-use native.Mathlib.Decide.{decLt}
 use native.Mathlib.Omega.{arith}
 use Rattle.ring.proofs.Ring as Ring
 use Rattle.ring.proofs.Ring.{Ring}
 use Rattle.ring.proofs.Solve.{ring, ring-from, var, :0, :1, _:+_, _:*_, :-_, given}
-use Rattle.ring.proofs.Sum.{sum, sum-ext, sum-nought, sum-add, sum-neg, sum-scale, sum-scale-right, sum-const, sum-halves, sum-reverse, sum-first, sum-swap, sum-single}
+use Rattle.ring.proofs.Sum.{sum, sum-ext, sum-nought, sum-add, sum-neg, sum-scale-right, sum-const, sum-halves, sum-reverse, sum-first, sum-gathered, sum-diagonal}
 use Rattle.ring.proofs.Parity.{Parity, even, odd, parity}
 use Rattle.ring.proofs.Sign.{sign, sign-even, sign-odd}
 use Rattle.ring.proofs.Stride.{stride, cs-stride}
-use Rattle.ring.proofs.Turn.{Turn, cs, cs-zero, cs-turns, cs-mirror, cs-product, own-negative}
+use Rattle.ring.proofs.Turn.{Turn, cs, cs-zero, cs-turns, cs-mirror, cs-product, own-negative, half-of-twice}
 
 module _ {C : Type 0} (R : Ring C) where
   open Ring R using (nought as 𝟘, one as 𝟙, add as _⊕_, mul as _⊗_, neg as ⊖_)
@@ -166,27 +164,18 @@ module _ {C : Type 0} (R : Ring C) (m : ℕ) (W : Turn R (suc m)) where
           ∙ sum-add R m (λ k. c (2 * suc k * (i + l + 1))) (λ k. c (2 * suc k * d))
           ∙ ap₂ _⊕_ (rest (i + l + 1)) (rest d)
 
-  -- from twice a number to the number
-  halves : (x y : C) → x ⊕ x ≡ y → x ≡ y ⊗ W .half
-  halves x y h =
-      ring-from R (x ∷ y ∷ W .half ∷ [])
-      (given (:- var 0) (var 2 :+ var 2) :1 (W .half-is) ∷ given (var 2) (var 0 :+ var 0) (var 1) h ∷ [])
-      (var 0)
-      (var 1 :* var 2)
-      tt
-
   module _ (e : ℕ) (power : suc m ≡ 2 ^ e) where
     weight-same : (l : ℕ) → weight l l ≡ Ring.num R (suc m) ⊗ W .half
     weight-same l =
         let h : l + l + 1 ≡ 2 * l + 1 = omega arith in
-        halves (weight l l) (Ring.num R (suc m))
-        (weight-twice l l 0 (Nat.zero-add l)
+        sym (half-of-twice R (suc m) W (Ring.num R (suc m)) (weight l l)
+        (sym (weight-twice l l 0 (Nat.zero-add l)
         ∙ ap₂ (λ (x y : C). x ⊕ y ⊕ ⊖ 𝟙) (ap A h ∙ cosines-odd R m W l) (cosines-zero R (suc m) W)
-        ∙ ring R (Ring.num R (suc m) ∷ []) (:1 :+ var 0 :+ :- :1) (var 0) tt)
+        ∙ ring R (Ring.num R (suc m) ∷ []) (:1 :+ var 0 :+ :- :1) (var 0) tt)))
 
     weight-apart : (i l d : ℕ) → suc d + l ≡ i → i < suc m → weight i l ≡ 𝟘
     weight-apart i l d h below =
-        halves (weight i l) 𝟘 (weight-twice i l (suc d) h ∙ by (parity (suc d))) ∙ Ring.nought-mul R (W .half)
+        sym (half-of-twice R (suc m) W 𝟘 (weight i l) (sym (weight-twice i l (suc d) h ∙ by (parity (suc d))))) ∙ Ring.nought-mul R (W .half)
       where
         none : A (i + l + 1) ⊕ A (suc d) ≡ 𝟙 → A (i + l + 1) ⊕ A (suc d) ⊕ ⊖ 𝟙 ≡ 𝟘
         none q = ap (λ (x : C). x ⊕ ⊖ 𝟙) q ∙ Ring.add-neg R 𝟙
@@ -207,40 +196,21 @@ module _ {C : Type 0} (R : Ring C) (m : ℕ) (W : Turn R (suc m)) where
         (sum-ext R m (λ k. c (suc k * (2 * i + 1)) ⊗ c (suc k * (2 * l + 1))) (λ k. c (suc k * (2 * l + 1)) ⊗ c (suc k * (2 * i + 1)))
         (λ k b. R .mul-comm (c (suc k * (2 * i + 1))) (c (suc k * (2 * l + 1)))))
 
-    weight-other : (i l : ℕ) → i < suc m → l < suc m → i ≢ l → weight i l ≡ 𝟘
-    weight-other i l bi bl apart =
-        elim (decLt l i) [
-          | yes b ↦ weight-apart i l (i - suc l) (omega arith) bi
-          | no b ↦ weight-swap i l ∙ weight-apart l i (l - suc i) (omega arith) bl
-        ]
-
     -- the double sum, gathered by the entries of the input
     gathered : (x : ℕ → C) (l : ℕ) → dct3-at (dct2-at x) l ≡ sum R (suc m) (λ i. x i ⊗ weight i l)
     gathered x l =
         ap₂ _⊕_ (sym (sum-scale-right R (suc m) (W .half) (λ i. x i ⊗ c (0 * (2 * i + 1)))) ∙ sum-ext R (suc m) _ _ (λ i b. first i))
-        (sum-ext R m _ (λ k. sum R (suc m) (λ i. term i k)) (λ k b. after k) ∙ sum-swap R m (suc m) (λ k i. term i k))
-        ∙ sym (sum-add R (suc m) (λ i. x i ⊗ W .half) (λ i. sum R m (λ k. term i k)))
-        ∙ sum-ext R (suc m) (λ i. x i ⊗ W .half ⊕ sum R m (λ k. term i k)) (λ i. x i ⊗ weight i l) (λ i b. together i)
+        (sum-gathered R m (suc m) x (λ i k. c (suc k * (2 * i + 1))) (λ k. c (suc k * (2 * l + 1))))
+        ∙ sym (sum-add R (suc m) (λ i. x i ⊗ W .half) (λ i. x i ⊗ after i))
+        ∙ sum-ext R (suc m) (λ i. x i ⊗ W .half ⊕ x i ⊗ after i) (λ i. x i ⊗ weight i l) (λ i b. sym (Ring.mul-add R (x i) (W .half) (after i)))
       where
-        term : ℕ → ℕ → C
-        term i k = x i ⊗ (c (suc k * (2 * i + 1)) ⊗ c (suc k * (2 * l + 1)))
+        after : ℕ → C
+        after i = sum R m (λ k. c (suc k * (2 * i + 1)) ⊗ c (suc k * (2 * l + 1)))
 
         first : (i : ℕ) → x i ⊗ c (0 * (2 * i + 1)) ⊗ W .half ≡ x i ⊗ W .half
         first i = ap (λ (y : C). x i ⊗ y ⊗ W .half) (ap c (Nat.zero-mul (2 * i + 1)) ∙ cs-zero R (suc m) W) ∙ ap (λ (y : C). y ⊗ W .half) (Ring.mul-one R (x i))
 
-        after : (k : ℕ) → sum R (suc m) (λ i. x i ⊗ c (suc k * (2 * i + 1))) ⊗ c (suc k * (2 * l + 1)) ≡ sum R (suc m) (λ i. term i k)
-        after k =
-            sym (sum-scale-right R (suc m) (c (suc k * (2 * l + 1))) (λ i. x i ⊗ c (suc k * (2 * i + 1))))
-            ∙ sum-ext R (suc m) _ (λ i. term i k) (λ i b. R .mul-assoc (x i) (c (suc k * (2 * i + 1))) (c (suc k * (2 * l + 1))))
-
-        together : (i : ℕ) → x i ⊗ W .half ⊕ sum R m (λ k. term i k) ≡ x i ⊗ weight i l
-        together i =
-            ap (λ (y : C). x i ⊗ W .half ⊕ y) (sum-scale R m (x i) (λ k. c (suc k * (2 * i + 1)) ⊗ c (suc k * (2 * l + 1))))
-            ∙ sym (Ring.mul-add R (x i) (W .half) (sum R m (λ k. c (suc k * (2 * i + 1)) ⊗ c (suc k * (2 * l + 1)))))
-
     pub dct3-of-dct2 : (x : ℕ → C) (l : ℕ) → l < suc m → dct3-at (dct2-at x) l ≡ x l ⊗ (Ring.num R (suc m) ⊗ W .half)
     dct3-of-dct2 x l b =
-        gathered x l
-        ∙ sum-single R (suc m) l (λ i. x i ⊗ weight i l) b
-        (λ i bi apart. ap (λ (y : C). x i ⊗ y) (weight-other i l bi b apart) ∙ Ring.mul-nought R (x i))
+        gathered x l ∙ sum-diagonal R (suc m) x weight weight-swap (λ i k less h. weight-apart i k (i - suc k) (omega arith) h) l b
         ∙ ap (λ (y : C). x l ⊗ y) (weight-same l)

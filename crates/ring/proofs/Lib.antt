@@ -17,4 +17,7 @@ pub mod Third
 pub mod OddEntries
 pub mod SplitThree
 pub mod Sines
+pub mod Fourth
+pub mod Fold
+pub mod Twice
 pub mod Modular

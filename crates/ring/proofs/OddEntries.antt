@@ -10,7 +10,7 @@ use Rattle.ring.proofs.Ring.{Ring}
 use Rattle.ring.proofs.Solve.{ring, ring-from, var, :0, :1, _:+_, _:*_, :-_, given}
 use Rattle.ring.proofs.Sum.{sum, sum-ext, sum-add, sum-neg, sum-scale, sum-scale-right, sum-suc, sum-first, sum-reverse, sum-even-odd}
 use Rattle.ring.proofs.Sign.{sign, sign-even, sign-square}
-use Rattle.ring.proofs.Turn.{Turn, cs, sn, sn-zero, cs-add, cs-sub, cs-mirror, sn-mirror, cs-quarter, sn-quarter, cs-zero, cs-odd-quarters, sn-odd-quarters, cs-quarters-less}
+use Rattle.ring.proofs.Turn.{Turn, cs, sn, sn-zero, cs-add, cs-sub, cs-mirror, sn-mirror, cs-quarter, sn-quarter, cs-zero, cs-odd-quarters, sn-odd-quarters, cs-quarters-less, half-of-twice}
 use Rattle.ring.proofs.Third.{third, third-first}
 
 module _ {C : Type 0} (R : Ring C) (r : ℕ) (W : Turn R (4 * suc r)) (x : ℕ → C) where
@@ -135,19 +135,13 @@ module _ {C : Type 0} (R : Ring C) (r : ℕ) (W : Turn R (4 * suc r)) (x : ℕ �
   all : (k : ℕ) → 4 * (suc r * (2 * k + 1)) ≡ n * (2 * k + 1)
   all k = omega arith
 
-  -- half of twice a number
-  half-of-twice : (v y : C) → v ≡ y ⊕ y → v ⊗ W .half ≡ y
-  half-of-twice v y e =
-      ap (λ (z : C). z ⊗ W .half) e
-      ∙ ring-from R (y ∷ W .half ∷ []) (given (var 0) (var 1 :+ var 1) :1 (W .half-is) ∷ []) ((var 0 :+ var 0) :* var 1) (var 0) tt
-
   pub along-is : (u : ℕ → C) → u 0 ≡ x 1 ⊕ x 1 → ((i : ℕ) → i < r → u (suc i) ≡ x (4 * i + 3) ⊕ x (4 * i + 5))
       → (k : ℕ) → along (2 * k + 1) ≡ third R n W 4 q u k
   along-is u first rest k =
       staggered (λ i. x (4 * i + 1) ⊗ c (4 * (i * (2 * k + 1)))) (λ i. x (4 * i + 3) ⊗ c (4 * (suc i * (2 * k + 1))))
       ∙ ap₂ (λ (y z : C). x 1 ⊗ y ⊕ middle ⊕ x (4 * r + 3) ⊗ z) (ap c (none k) ∙ cs-zero R n W) (ap c (all k) ∙ cs-odd-quarters R n W k)
       ∙ ring R (x 1 ∷ middle ∷ x (4 * r + 3) ∷ []) (var 0 :* :1 :+ var 1 :+ var 2 :* :0) (var 0 :+ var 1) tt
-      ∙ ap₂ _⊕_ (sym (half-of-twice (u 0) (x 1) first)) (sum-ext R r _ _ (λ i l. pair i l))
+      ∙ ap₂ _⊕_ (sym (half-of-twice R n W (u 0) (x 1) first)) (sum-ext R r _ _ (λ i l. pair i l))
       ∙ sym (third-first R n W 4 r u k)
     where
       middle : C
@@ -171,7 +165,7 @@ module _ {C : Type 0} (R : Ring C) (r : ℕ) (W : Turn R (4 * suc r)) (x : ℕ �
       (:- (var 0 :* :0) :+ var 1 :+ var 2 :* var 3)
       (var 3 :* (var 2 :+ var 3 :* var 1))
       tt
-      ∙ ap₂ (λ (y z : C). sign R k ⊗ (y ⊕ z)) (sym (half-of-twice (v 0) (x (4 * r + 3)) first))
+      ∙ ap₂ (λ (y z : C). sign R k ⊗ (y ⊕ z)) (sym (half-of-twice R n W (v 0) (x (4 * r + 3)) first))
       (sym (sum-scale R r (sign R k) middle)
       ∙ sym (sum-reverse R r (λ i. sign R k ⊗ middle i) (λ m. v (suc m) ⊗ c (4 * (suc m * (2 * k + 1)))) pair))
       ∙ ap (λ (y : C). sign R k ⊗ y) (sym (third-first R n W 4 r v k))

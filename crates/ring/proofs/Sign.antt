@@ -1,9 +1,11 @@
 -- Signs over any commutative ring: (−1)^m, which is 1 at an even m and −1 at an odd one. Assumes nothing.
 use mathlib.Core.Path.{_≡_, sym, _∙_, ap}
+use mathlib.Core.List.{[], _∷_}
 use Prim.Native.Nat.{ℕ, suc, _+_, _*_}
 use native.Mathlib.Omega.{arith}
 use Rattle.ring.proofs.Ring as Ring
 use Rattle.ring.proofs.Ring.{Ring}
+use Rattle.ring.proofs.Solve.{ring-from, var, :1, _:*_, :-_, given}
 
 module _ {C : Type 0} (R : Ring C) where
   open Ring R using (nought as 𝟘, one as 𝟙, add as _⊕_, mul as _⊗_, neg as ⊖_)
@@ -34,3 +36,13 @@ module _ {C : Type 0} (R : Ring C) where
   sign-square m =
       let h : m + m ≡ 2 * m = omega arith in
       sym (Ring.pow-add R (⊖ 𝟙) m m) ∙ ap sign h ∙ sign-even m
+
+  -- two numbers with an odd sum have opposite signs
+  pub sign-opposite : (k l t : ℕ) → k + l ≡ 2 * t + 1 → sign l ≡ ⊖ sign k
+  sign-opposite k l t e =
+      ring-from R (sign k ∷ sign l ∷ [])
+      (given (:- var 1) (var 0 :* var 0) :1 (sign-square k)
+      ∷ given (var 0) (var 0 :* var 1) (:- :1) (sym (Ring.pow-add R (⊖ 𝟙) k l) ∙ ap sign e ∙ sign-odd t) ∷ [])
+      (var 1)
+      (:- var 0)
+      tt

@@ -1,5 +1,5 @@
 -- The sine sums by the cosine sums, over any commutative ring with a turn: DST-II is DCT-II of the entries with every other sign changed, read backwards;
--- DST-III is DCT-III of the entries read backwards, with every other sign changed. Assumes nothing.
+-- DST-III is DCT-III of the entries read backwards, with every other sign changed, and so is DST-IV by DCT-IV. Assumes nothing.
 use mathlib.Core.Path.{_≡_, sym, _∙_, ap, ap₂}
 use mathlib.Core.List.{[], _∷_}
 use Prim.Native.Nat.{ℕ, suc, _+_, _*_, _<_}
@@ -57,3 +57,20 @@ module _ {C : Type 0} (R : Ring C) (n : ℕ) (W : Turn R n) where
           omega (arith, ap (λ (z : ℕ). 2 * k * z) e, ap (λ (z : ℕ). 2 * k * z) whole, e, whole) in
           ap₂ _⊗_ (is (suc i) j (omega arith)) (cs-quarters-less R n W ((j + 1) * (2 * k + 1)) (1 * (suc i * (2 * k + 1))) k quarters)
           ∙ ring R (x j ∷ s ((j + 1) * (2 * k + 1)) ∷ sign R k ∷ []) (var 0 :* (var 2 :* var 1)) (var 2 :* (var 0 :* var 1)) tt
+
+  -- the length is m, and n twice as much
+  pub fourth-sines : (m : ℕ) → 2 * m ≡ n → (x y : ℕ → C) → ((i j : ℕ) → i + suc j ≡ m → y i ≡ x j) → (k : ℕ)
+      → sign R k ⊗ sum R m (λ i. y i ⊗ c ((2 * i + 1) * (2 * k + 1))) ≡ sum R m (λ i. x i ⊗ s ((2 * i + 1) * (2 * k + 1)))
+  fourth-sines m twice x y is k =
+      sym (sum-scale R m (sign R k) (λ i. y i ⊗ c ((2 * i + 1) * (2 * k + 1))))
+      ∙ sum-reverse R m (λ i. x i ⊗ s ((2 * i + 1) * (2 * k + 1))) (λ i. sign R k ⊗ (y i ⊗ c ((2 * i + 1) * (2 * k + 1)))) pair
+    where
+      pair : (i j : ℕ) → i + suc j ≡ m → sign R k ⊗ (y i ⊗ c ((2 * i + 1) * (2 * k + 1))) ≡ x j ⊗ s ((2 * j + 1) * (2 * k + 1))
+      pair i j e =
+          let quarters : (2 * j + 1) * (2 * k + 1) + (2 * i + 1) * (2 * k + 1) ≡ n * (2 * k + 1) =
+          omega (arith, ap (λ (z : ℕ). 4 * k * z) e, ap (λ (z : ℕ). 2 * k * z) twice, e, twice) in
+          ap₂ (λ (a b : C). sign R k ⊗ (a ⊗ b)) (is i j e) (cs-quarters-less R n W ((2 * j + 1) * (2 * k + 1)) ((2 * i + 1) * (2 * k + 1)) k quarters)
+          ∙ ring-from R (x j ∷ s ((2 * j + 1) * (2 * k + 1)) ∷ sign R k ∷ []) (given (var 0 :* var 1) (var 2 :* var 2) :1 (sign-square R k) ∷ [])
+          (var 2 :* (var 0 :* (var 2 :* var 1)))
+          (var 0 :* var 1)
+          tt

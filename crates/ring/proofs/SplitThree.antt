@@ -105,12 +105,12 @@ module _ {C : Type 0} (R : Ring C) (r : ℕ) (W : Turn R (4 * suc r)) (x : ℕ �
     abbrev pub upper : ℕ → C
     upper k = third R n W 4 q u k ⊗ sn R n W (2 * k + 1) ⊕ ⊖ (sign R k ⊗ third R n W 4 q v k ⊗ cs R n W (2 * k + 1))
 
-    odds-lower : (k : ℕ) → odds R r W x (2 * k + 1) ≡ lower k
+    pub odds-lower : (k : ℕ) → odds R r W x (2 * k + 1) ≡ lower k
     odds-lower k =
         odds-rotated R r W x (2 * k + 1)
         ∙ ap₂ (λ (y z : C). y ⊗ cs R n W (2 * k + 1) ⊕ z ⊗ sn R n W (2 * k + 1)) (along-is R r W x u (N .u-first) (N .u-rest) k) (across-is R r W x v (N .v-first) (N .v-rest) k)
 
-    odds-upper : (k l : ℕ) → k + suc l ≡ 2 * q → odds R r W x (2 * l + 1) ≡ upper k
+    pub odds-upper : (k l : ℕ) → k + suc l ≡ 2 * q → odds R r W x (2 * l + 1) ≡ upper k
     odds-upper k l e =
         odds-mirrored R r W x (2 * k + 1) (2 * l + 1) (omega arith)
         ∙ ap₂ (λ (y z : C). y ⊗ sn R n W (2 * k + 1) ⊕ ⊖ (z ⊗ cs R n W (2 * k + 1))) (along-is R r W x u (N .u-first) (N .u-rest) k) (across-is R r W x v (N .v-first) (N .v-rest) k)

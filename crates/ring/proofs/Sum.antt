@@ -1,11 +1,12 @@
 -- Finite sums over any commutative ring: Σ_{i<n} f i, as `sumOf` of the ring's addition.
 -- By the terms: sum-ext, sum-nought, sum-add, sum-neg, sum-scale, sum-scale-right, sum-const.
--- By the range: sum-suc, sum-first, sum-split, sum-halves, sum-reverse, sum-fold, sum-even-odd, sum-single. Two sums: sum-swap.
+-- By the range: sum-suc, sum-first, sum-split, sum-halves, sum-reverse, sum-fold, sum-even-odd, sum-single. Two sums: sum-swap, sum-gathered, sum-diagonal.
 -- A place counted from the other end is given by an equation, i + suc k ≡ n, and never by a subtraction inside a product. Assumes nothing.
 use mathlib.Core.Path.{_≡_, refl, sym, _∙_, ap, ap₂}
 use mathlib.Core.Logic.{_≢_, ⊎-elim}
 use Prim.Native.Nat.{ℕ, zero, suc, _+_, _-_, _<_}
 use native.Mathlib.Nat as Nat
+use native.Mathlib.Decide.{decLt}
 use native.Mathlib.Omega.{arith}
 use Rattle.ring.specs.Finite.{sumOf}
 use Rattle.ring.proofs.Terms.{terms-none, terms-suc, terms-ext}
@@ -125,3 +126,23 @@ module _ {C : Type 0} (R : Ring C) where
       (λ (h : k < n).
       ap₂ _⊕_ (sum-single n k f h (λ i b d. e i (omega arith) d)) (e n (omega arith) (omega arith)) ∙ Ring.add-nought R (f k))
       (Nat.eq-or-lt-of-le (Nat.le-of-suc-le-suc l))
+
+  -- a sum of sums, gathered by the entries of the inner one
+  pub sum-gathered : (m n : ℕ) (x : ℕ → C) (f : ℕ → ℕ → C) (h : ℕ → C)
+      → sum m (λ k. sum n (λ i. x i ⊗ f i k) ⊗ h k) ≡ sum n (λ i. x i ⊗ sum m (λ k. f i k ⊗ h k))
+  sum-gathered m n x f h =
+      sum-ext m (λ k. sum n (λ i. x i ⊗ f i k) ⊗ h k) (λ k. sum n (λ i. x i ⊗ (f i k ⊗ h k)))
+      (λ k l.
+      sym (sum-scale-right n (h k) (λ i. x i ⊗ f i k))
+      ∙ sum-ext n (λ i. x i ⊗ f i k ⊗ h k) (λ i. x i ⊗ (f i k ⊗ h k)) (λ i b. R .mul-assoc (x i) (f i k) (h k)))
+      ∙ sum-swap m n (λ k i. x i ⊗ (f i k ⊗ h k))
+      ∙ sum-ext n (λ i. sum m (λ k. x i ⊗ (f i k ⊗ h k))) (λ i. x i ⊗ sum m (λ k. f i k ⊗ h k)) (λ i b. sum-scale m (x i) (λ k. f i k ⊗ h k))
+
+  -- where the weights are symmetric, and nought at two different places, one entry alone is left
+  pub sum-diagonal : (n : ℕ) (x : ℕ → C) (w : ℕ → ℕ → C) → ((i k : ℕ) → w i k ≡ w k i) → ((i k : ℕ) → k < i → i < n → w i k ≡ 𝟘)
+      → (l : ℕ) → l < n → sum n (λ i. x i ⊗ w i l) ≡ x l ⊗ w l l
+  sum-diagonal n x w symmetric apart l b =
+      sum-single n l (λ i. x i ⊗ w i l) b (λ i h other. ap (λ (y : C). x i ⊗ y) (none i h other) ∙ Ring.mul-nought R (x i))
+    where
+      none : (i : ℕ) → i < n → i ≢ l → w i l ≡ 𝟘
+      none i h other = elim (decLt l i) [ yes less ↦ apart i l less h | no more ↦ symmetric i l ∙ apart l i (omega arith) b ]

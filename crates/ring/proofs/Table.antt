@@ -1,7 +1,7 @@
 -- Lists as tables of a function of the index: the length, the entries, when a list is a table, and tables put together.
 -- Over any type of entries. Assumes nothing.
 use mathlib.Core.Path.{_≡_, refl, ap, sym, _∙_}
-use mathlib.Core.List.{List, [], _∷_, _++_}
+use mathlib.Core.List.{List, [], _∷_, _++_, map}
 use Prim.Native.Nat.{ℕ, zero, suc, _+_, _<_}
 use native.Mathlib.Nat.{le-of-suc-le-suc, not-suc-le-zero, zero-add, suc-add}
 use native.Mathlib.Omega.{arith}
@@ -53,3 +53,9 @@ module _ {A : Type 0} where
       ap (λ (k : ℕ). tab k f) (suc-add m n)
       ∙ ap (λ (xs : List A). f zero ∷ xs)
       (tab-append m n (λ k. f (suc k)) ∙ ap (λ (xs : List A). tab m (λ k. f (suc k)) ++ xs) (tab-ext n (λ k below. ap f (sym (suc-add m k)))))
+
+-- a function of each entry
+pub map-tab : {A B : Type 0} (f : A → B) (n : ℕ) (h : ℕ → A) → map f (tab n h) ≡ tab n (λ k. f (h k))
+unfolding tab
+map-tab f zero h = refl
+map-tab {B = B} f (suc n) h = ap (λ (xs : List B). f (h zero) ∷ xs) (map-tab f n (λ k. h (suc k)))

@@ -79,6 +79,12 @@ module _ {C : Type 0} (R : Ring C) (n : ℕ) (W : Turn R n) where
       :0
       tt
 
+  -- half of twice a number
+  pub half-of-twice : (v y : C) → v ≡ y ⊕ y → v ⊗ W .half ≡ y
+  half-of-twice v y e =
+      ap (λ (z : C). z ⊗ W .half) e
+      ∙ ring-from R (y ∷ W .half ∷ []) (given (var 0) (var 1 :+ var 1) :1 (W .half-is) ∷ []) ((var 0 :+ var 0) :* var 1) (var 0) tt
+
   -- what undoes w^a is w^−a
   pub back-only : (a : ℕ) (x : C) → forth a ⊗ x ≡ 𝟙 → x ≡ back a
   back-only a x h =

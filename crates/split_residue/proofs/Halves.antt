@@ -1,4 +1,4 @@
--- What a table's levels say: the length is from 1 to 1024 (levels-some, levels-bound) and goes into a quarter of a turn (levels-length), the table serves its half and its
+-- What a table's levels say: the length is from 1 to 2048 (levels-some, levels-bound) and goes into a quarter of a turn (levels-length), the table serves its half and its
 -- quarter too (levels-two, levels-quarter), and the twiddles of a step at 4q entries stand in it (twiddle-cos, twiddle-sin). And when a step is taken
 -- (step-ready). Assumes nothing.
 use mathlib.Core.Path.{_≡_, sym, _∙_}
@@ -15,7 +15,7 @@ use Rattle.algorithms.specs.Split.{twiddleCos, twiddleSin}
 use Rattle.split_residue.specs.Ready.{Levels, InPlace, Step}
 
 -- a power of two above 2 has whole quarters
-quarters-whole : (e n : ℕ) → n ≡ 2 ^ e → 2 < n → 4 * (n / 4) ≡ n
+pub quarters-whole : (e n : ℕ) → n ≡ 2 ^ e → 2 < n → 4 * (n / 4) ≡ n
 quarters-whole zero n power large = absurd (let no : ⊥ = omega (arith, Nat.pow-zero 2) in no)
 quarters-whole (suc zero) n power large = absurd (let no : ⊥ = omega (arith, Nat.pow-suc 2 0, Nat.pow-zero 2) in no)
 quarters-whole (suc (suc e)) n power large = omega (arith, Nat.pow-suc 2 (suc e), Nat.pow-suc 2 e)
@@ -27,7 +27,7 @@ half-power (suc e) n some power =
     rw less (omega (arith, Nat.pow-suc 2 e))
 
 module _ {t : List ℕ} where
-  pub levels-bound : {n : ℕ} → Levels n t → n ≤ 1024
+  pub levels-bound : {n : ℕ} → Levels n t → n ≤ 2048
   levels-bound levels = omega (arith, levels .enough, cosines-bound t (levels .cosines))
 
   pub levels-some : {n : ℕ} → Levels n t → 1 ≤ n

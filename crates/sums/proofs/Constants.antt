@@ -44,19 +44,22 @@ j-square = ap (λ (x : ℕ). x * x % p) j-is
 pub j-inverse : j * j⁻¹ % p ≡ 1
 j-inverse = ap₂ (λ (x y : ℕ). x * y % p) j-is j⁻¹-is
 
-pub √2-square : √2 * √2 % p ≡ 2
+pub √2-is : √2 ≡ 882049182
 unfolding √2
-√2-square = ap₂ (λ (x y : ℕ). (x ^ 1024 + y ^ 1024) % p * ((x ^ 1024 + y ^ 1024) % p) % p) g-is g⁻¹-is
+√2-is = ap₂ (λ (x y : ℕ). (x ^ 1024 + y ^ 1024) % p) g-is g⁻¹-is
+
+pub √2⁻¹-is : √2⁻¹ ≡ 441024591
+unfolding √2⁻¹
+√2⁻¹-is = ap (λ (x : ℕ). x * half % p) √2-is
+
+pub √2-square : √2 * √2 % p ≡ 2
+√2-square = ap (λ (x : ℕ). x * x % p) √2-is
 
 pub √2-inverse : √2 * √2⁻¹ % p ≡ 1
-unfolding √2 √2⁻¹
-√2-inverse =
-    ap₂ (λ (x y : ℕ). (x ^ 1024 + y ^ 1024) % p * ((x ^ 1024 + y ^ 1024) % p * half % p) % p) g-is g⁻¹-is
+√2-inverse = ap₂ (λ (x y : ℕ). x * y % p) √2-is √2⁻¹-is
 
 pub √2⁻¹-square : 2 * (√2⁻¹ * √2⁻¹) % p ≡ 1
-unfolding √2 √2⁻¹
-√2⁻¹-square =
-    ap₂ (λ (x y : ℕ). 2 * ((x ^ 1024 + y ^ 1024) % p * half % p * ((x ^ 1024 + y ^ 1024) % p * half % p)) % p) g-is g⁻¹-is
+√2⁻¹-square = ap (λ (x : ℕ). 2 * (x * x) % p) √2⁻¹-is
 
 pub above : 0 < p
 above = lit< tt

@@ -74,7 +74,7 @@ smaller : (k m : ℕ) → 2 * 2 ^ k ≤ 2 ^ m → k < m
 smaller k m h = Nat.lt-of-not-le (λ above. omega (arith, pow-mono above, pow-pos k))
 
 -- what a function that hands out such a table ensures of it
-pub table-cosines : (m : ℕ) (t : List ℕ) → m ≤ 10 → t ≡ cosinesTable m → Cosines t
+pub table-cosines : (m : ℕ) (t : List ℕ) → m ≤ 11 → t ≡ cosinesTable m → Cosines t
 table-cosines m t small is = record {
   levels = m;
   small = small;
@@ -86,7 +86,7 @@ module _ (t : List ℕ) (C : Cosines t) where
   whole-length : length t + 1 ≡ 2 ^ C .levels
   whole-length = ap (λ (t : List ℕ). length t + 1) (C .rule) ∙ cosines-length (C .levels)
 
-  pub cosines-bound : length t + 1 ≤ 1024
+  pub cosines-bound : length t + 1 ≤ 2048
   cosines-bound = omega (arith, whole-length, pow-mono (C .small))
 
   pub cosines-below : (k : ℕ) → k < length t → getD t k 0 < p

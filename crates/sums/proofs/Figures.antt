@@ -16,7 +16,8 @@ use Rattle.sums.specs.Size.{oneOf, powersOfTwo, powerOfTwo, allowedSize}
 use Rattle.sums.specs.Lengths.{lengthsFit}
 use Rattle.sums.specs.Bad.{firstBad, soundEntries}
 use Rattle.sums.specs.Figure.{computedFigures, statedFigures}
-use Rattle.sums.specs.Example.{computedExamples, statedExamples}
+use Rattle.sums.specs.Curve.{blocksAfter, blocksOf, overlapped, curveOf, total, pooled, pooledBlocks}
+use Rattle.sums.specs.Example.{computedExamples, statedExamples, computedReading, statedReading}
 use Rattle.sums.proofs.Constants.{g-is, g⁻¹-is, j⁻¹-is, reduced}
 
 -- a^k mod p by repeated squaring; d bounds the depth
@@ -92,3 +93,8 @@ pub the-examples : computedExamples ≡ statedExamples
 unfolding mdctSum imdctSum dct4Sum dst4Sum flatWindow
 the-examples =
     rw (cos-fast, sin-fast) (unfold sumOf tab cosFast sinFast power √2⁻¹ √2 g g⁻¹ in refl)
+
+-- the example of a reading
+pub the-reading : computedReading ≡ statedReading
+unfolding mdctSum imdctSum flatWindow blocksAfter blocksOf overlapped curveOf total pooled pooledBlocks
+the-reading = rw cos-fast (unfold sumOf tab cosFast power √2⁻¹ √2 g g⁻¹ in refl)

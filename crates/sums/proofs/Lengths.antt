@@ -1,7 +1,7 @@
 -- The turn at each length n that goes into a quarter turn, 2048: document 01's angles a/(4n) of a turn are that turn's angles a.
 -- A length that goes into another has some of its angles (part-length, cs-part). And sums of products as residues. Assumes nothing.
-use mathlib.Core.Path.{_≡_, sym, _∙_, ap}
-use Prim.Native.Nat.{ℕ, _+_, _*_, _-_, _^_, _/_, _≤_}
+use mathlib.Core.Path.{_≡_, sym, _∙_, ap, subst}
+use Prim.Native.Nat.{ℕ, suc, _+_, _*_, _-_, _^_, _/_, _≤_}
 use native.Mathlib.Nat as Nat
 use native.Mathlib.Omega.{arith}
 use lib.Pow.{pow-add}
@@ -26,6 +26,12 @@ pub power-length : (m : ℕ) → m ≤ 11 → Length (2 ^ m)
 power-length m h =
     let e : 11 - m + m ≡ 11 = omega arith in
     record { step = 2 ^ (11 - m); whole = sym (pow-add 2 (11 - m) m) ∙ ap (λ (x : ℕ). 2 ^ x) e }
+
+-- type 4 and MDCT of 2^(k+1) entries have the angles of twice that length
+pub type4-length : (k : ℕ) → k ≤ 9 → Length (4 * 2 ^ k)
+type4-length k h =
+    let four : 2 ^ suc (suc k) ≡ 4 * 2 ^ k = omega (arith, Nat.two-pow-succ k, Nat.two-pow-succ (suc k)) in
+    subst Length four (power-length (suc (suc k)) (omega arith))
 
 module _ (n : ℕ) (L : Length n) where
   pub turnAt : Turn Zp n

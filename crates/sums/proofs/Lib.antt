@@ -8,5 +8,13 @@ pub mod Signed
 pub mod Lengths
 pub mod Outputs
 pub mod Inverse
+pub mod Fourths
+pub mod Fold
+pub mod Block
 pub mod Windows
+pub mod Sizes
+pub mod Pooled
+pub mod Whole
+pub mod Curve
+pub mod Reading
 pub mod Figures

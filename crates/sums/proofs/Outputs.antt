@@ -1,18 +1,27 @@
--- Lists of outputs: their lengths, that their entries are residues, and how they are known by the residues of their entries. Assumes nothing.
+-- Lists of outputs: their lengths, that their entries are residues, and how they are known by the residues of their entries (outputs-only, residues-only). Assumes nothing.
 use mathlib.Core.Path.{_≡_, sym, _∙_, ap, subst}
-use mathlib.Core.List.{List}
-use Prim.Native.Nat.{ℕ, _%_, _<_}
+use mathlib.Core.List.{List, _++_}
+use Prim.Native.Nat.{ℕ, _+_, _*_, _%_, _<_}
 use native.Mathlib.Nat as Nat
-use lib.ListN.{length}
+use native.Mathlib.Omega.{arith}
+use lib.ListN.{length, List·getD-append}
+use lib.Seq.{ext-getD, getD-append-add}
 use Rattle.ring.proofs.Modular.{Residue, of, of-mod, mod-eq}
 use Rattle.ring.proofs.Table.{length-tab, getD-tab, tab-ext}
 use Rattle.sums.specs.Residue.{p, Residues}
-use Rattle.sums.specs.Transform.{entry, outputs, dct2Sum, dst2Sum, dct3Sum, dst3Sum, dct4Sum}
+use Rattle.sums.specs.Transform.{entry, outputs, dct2Sum, dst2Sum, dct3Sum, dst3Sum, dct4Sum, dst4Sum, mdctSum, imdctSum}
 use Rattle.sums.proofs.Constants.{above}
 
 -- the entries of a list as residues
 abbrev pub residues : List ℕ → ℕ → Residue p
 residues x i = of p (entry x i)
+
+-- where one list follows another of n entries
+pub residues-front : (n : ℕ) (x y : List ℕ) → length x ≡ n → (i : ℕ) → i < n → residues (x ++ y) i ≡ residues x i
+residues-front n x y e i l = ap (of p) (List·getD-append x y 0 i (omega arith))
+
+pub residues-after : (n : ℕ) (x y : List ℕ) → length x ≡ n → (i : ℕ) → residues (x ++ y) (n + i) ≡ residues y i
+residues-after n x y e i = ap (λ (m : ℕ). residues (x ++ y) (m + i)) (sym e) ∙ ap (of p) (getD-append-add x y i 0)
 
 -- an entry of a list of outputs, as a residue
 pub of-output : (n : ℕ) (f : ℕ → ℕ) (k : ℕ) → k < n → of p (entry (outputs n f) k) ≡ of p (f k)
@@ -38,6 +47,19 @@ length-dst3 x = length-tab (length x) _
 pub length-dct4 : (x : List ℕ) → length (dct4Sum x) ≡ length x
 unfolding dct4Sum
 length-dct4 x = length-tab (length x) _
+
+pub length-dst4 : (x : List ℕ) → length (dst4Sum x) ≡ length x
+unfolding dst4Sum
+length-dst4 x = length-tab (length x) _
+
+-- an MDCT has N outputs, an IMDCT 2N
+pub length-mdct : (N : ℕ) (w x : List ℕ) → length (mdctSum N w x) ≡ N
+unfolding mdctSum
+length-mdct N w x = length-tab N _
+
+pub length-imdct : (N : ℕ) (w held X : List ℕ) → length (imdctSum N w held X) ≡ 2 * N
+unfolding imdctSum
+length-imdct N w held X = length-tab (2 * N) _
 
 -- outputs are reduced
 pub outputs-residues : (n : ℕ) (f : ℕ → ℕ) → Residues (outputs n f)
@@ -68,6 +90,18 @@ pub dct4-residues : (x : List ℕ) → Residues (dct4Sum x)
 unfolding dct4Sum
 dct4-residues x = outputs-residues (length x) _
 
+pub dst4-residues : (x : List ℕ) → Residues (dst4Sum x)
+unfolding dst4Sum
+dst4-residues x = outputs-residues (length x) _
+
+pub mdct-residues : (N : ℕ) (w x : List ℕ) → Residues (mdctSum N w x)
+unfolding mdctSum
+mdct-residues N w x = outputs-residues N _
+
+pub imdct-residues : (N : ℕ) (w held X : List ℕ) → Residues (imdctSum N w held X)
+unfolding imdctSum
+imdct-residues N w held X = outputs-residues (2 * N) _
+
 -- a list of outputs is known by the residues of its entries
 pub outputs-only : (z : List ℕ) (n : ℕ) (f h : ℕ → ℕ) → z ≡ outputs n f → ((k : ℕ) → k < n → of p (entry z k) ≡ of p (h k))
     → z ≡ outputs n h
@@ -75,3 +109,12 @@ outputs-only z n f h e same =
     e
     ∙ tab-ext n
     (λ k l. mod-eq p (f k) (h k) (sym (of-output n f k l) ∙ ap (λ (y : List ℕ). of p (entry y k)) (sym e) ∙ same k l))
+
+-- so is a list of residues
+pub residues-only : (n : ℕ) (y z : List ℕ) → length y ≡ n → length z ≡ n → Residues y → Residues z
+    → ((k : ℕ) → k < n → residues y k ≡ residues z k) → y ≡ z
+residues-only n y z ny nz ry rz same =
+    ext-getD 0 y z (ny ∙ sym nz)
+    (λ k l.
+    sym (Nat.mod-eq-of-lt (ry .below k l)) ∙ mod-eq p (entry y k) (entry z k) (same k (omega arith))
+    ∙ Nat.mod-eq-of-lt (rz .below k (omega arith)))

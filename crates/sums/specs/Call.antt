@@ -1,15 +1,18 @@
 -- What each public call answers, for all input. Assumes nothing.
-use mathlib.Core.Bool.{true}
-use mathlib.Core.List.{List}
+use mathlib.Core.Bool.{Bool, true}
+use mathlib.Core.List.{List, [], _++_}
 use Prim.Native.Nat.{ℕ, _*_}
-use lib.ListN.{length}
+use lib.Dec.{eqb}
+use lib.ListN.{length, take, drop}
 use Rattle.answers.specs.declared.Answer.{Answer}
 use Rattle.answers.specs.declared.Answer.the-variants.{Done, No}
 use Rattle.answers.specs.Refuse.{transformAnswer}
+use Rattle.ring.specs.Finite.{both}
 use Rattle.ring.specs.Part.{cleared}
-use Rattle.sums.specs.Size.{allowedSize}
+use Rattle.sums.specs.Size.{allowedSize, exponentOf}
 use Rattle.sums.specs.Lengths.{lengthsFit}
 use Rattle.sums.specs.Bad.{soundEntries}
+use Rattle.sums.specs.Transform.{mdctSum, imdctSum}
 use Rattle.sums.specs.Window.{acceptedWindow}
 
 -- the test of a window for blocks of N: N from 2 to 1024, 2N entries, no scratch
@@ -39,3 +42,53 @@ outcomeOf transform N buffer scratch (No r) = outcome (No r) buffer scratch
 -- the promise of every transform in place
 abbrev pub inPlace : ℕ → (List ℕ → List ℕ) → ℕ → List ℕ → List ℕ → Outcome
 inPlace least transform N buffer scratch = outcomeOf transform N buffer scratch (inPlaceAnswer least N buffer (length scratch))
+
+-- filling a lent slice of 2N entries with a window for blocks of N = 2^m, by m; what it held is not looked at, and no scratch is lent
+abbrev pub fillAnswer : ℕ → List ℕ → Answer
+fillAnswer N w = transformAnswer (allowedSize 2 N) (lengthsFit (length w) (2 * N) 0 0) true true
+
+abbrev pub filled : (ℕ → List ℕ) → ℕ → List ℕ → Outcome
+filled window N w = outcomeOf (λ held. window (exponentOf N)) 0 w [] (fillAnswer N w)
+
+-- the lengths of an MDCT or IMDCT of N: three slices of N, a window of 2N, and scratch of `parts` times N or more: no part for the naive sums, two for the fast way
+abbrev pub blockLengths : ℕ → ℕ → List ℕ → List ℕ → List ℕ → List ℕ → ℕ → Bool
+blockLengths parts N a b c w scratchLength =
+    both (eqb (length a) N) (both (eqb (length b) N) (both (eqb (length c) N) (lengthsFit (length w) (2 * N) scratchLength (parts * N))))
+
+-- MDCT reads its two segments and the window, and overwrites its output
+abbrev pub mdctAnswer : ℕ → ℕ → List ℕ → List ℕ → List ℕ → List ℕ → ℕ → Answer
+mdctAnswer parts N first second output w scratchLength =
+    transformAnswer (allowedSize 2 N) (blockLengths parts N first second output w scratchLength)
+    (both (soundEntries first) (both (soundEntries second) (soundEntries w)))
+    (acceptedWindow N w)
+
+abbrev pub mdctCall : ℕ → ℕ → List ℕ → List ℕ → List ℕ → List ℕ → List ℕ → Outcome
+mdctCall parts N first second output w scratch =
+    outcomeOf (λ overwritten. mdctSum N w (first ++ second)) (parts * N) output scratch
+    (mdctAnswer parts N first second output w (length scratch))
+
+-- IMDCT reads its input and the window, and adds to both of its outputs
+abbrev pub imdctAnswer : ℕ → ℕ → List ℕ → List ℕ → List ℕ → List ℕ → ℕ → Answer
+imdctAnswer parts N input first second w scratchLength =
+    transformAnswer (allowedSize 2 N) (blockLengths parts N input first second w scratchLength)
+    (both (soundEntries input) (both (soundEntries first) (both (soundEntries second) (soundEntries w))))
+    (acceptedWindow N w)
+
+-- what an IMDCT answers, and what its outputs and its scratch then hold
+pub record Spread : Type 0 where
+  pub answer : Answer
+  pub first : List ℕ
+  pub second : List ℕ
+  pub scratch : List ℕ
+
+abbrev pub spread : Answer → List ℕ → List ℕ → List ℕ → Spread
+spread answer first second scratch = record { answer = answer; first = first; second = second; scratch = scratch }
+
+abbrev pub spreadOf : ℕ → ℕ → List ℕ → List ℕ → List ℕ → List ℕ → List ℕ → Answer → Spread
+spreadOf parts N input first second w scratch Done =
+    spread Done (take N (imdctSum N w (first ++ second) input)) (drop N (imdctSum N w (first ++ second) input)) (cleared 0 (parts * N) scratch)
+spreadOf parts N input first second w scratch (No r) = spread (No r) first second scratch
+
+abbrev pub imdctCall : ℕ → ℕ → List ℕ → List ℕ → List ℕ → List ℕ → List ℕ → Spread
+imdctCall parts N input first second w scratch =
+    spreadOf parts N input first second w scratch (imdctAnswer parts N input first second w (length scratch))

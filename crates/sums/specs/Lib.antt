@@ -8,5 +8,7 @@ pub mod Size
 pub mod Lengths
 pub mod Bad
 pub mod Call
+pub mod Shots
+pub mod Curve
 pub mod Figure
 pub mod Example

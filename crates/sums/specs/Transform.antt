@@ -59,3 +59,7 @@ unfoldable pub imdctSum : ℕ → List ℕ → List ℕ → List ℕ → List �
 imdctSum N w held X =
     outputs (2 * N)
     (λ n. entry held n + entry w n * sum N (λ k. entry X k * cosTurn ((2 * n + 1 + N) * (2 * k + 1)) (8 * N)))
+
+-- what type 3 after type 2 leaves, and type 4 after type 4: x_l · N/2
+unfoldable pub timesHalfLength : List ℕ → List ℕ
+timesHalfLength x = outputs (length x) (λ l. length x * half * entry x l)

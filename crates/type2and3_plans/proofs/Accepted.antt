@@ -1,43 +1,23 @@
 -- What an accepted call may do: lend the table of powers to the sums (accepted-ready), or a table of cosines to split radix (accepted-in-place),
--- copy the buffer to scratch and read it there (copied-front), and clear scratch whatever was written to its front (cleared-again, lent-cleared). Assumes nothing.
+-- copy the buffer to scratch and read it there (copied-front), and clear scratch of the copy (copied-cleared). Assumes nothing.
 use mathlib.Core.Path.{_≡_, refl, sym, _∙_, ap, subst}
 use mathlib.Core.List.{List, _++_}
-use Prim.Native.Nat.{ℕ, _+_, _*_, _-_, _^_, _≤_}
-use native.Mathlib.Nat as Nat
+use Prim.Native.Nat.{ℕ, _+_, _*_, _-_, _≤_}
 use native.Mathlib.Omega.{arith}
-use lib.ListN.{length, take, drop, replicate}
-use lib.Pow.{pow-mono}
-use lib.Seq.{take-append-seam, drop-append-seam}
+use lib.ListN.{length, take, drop}
 use Rattle.ring.specs.Part.{cleared, copied}
 use Rattle.sums.specs.Cosines.{Cosines}
 use Rattle.sums.specs.Residue.{Residues, powersTable}
 use Rattle.sums.proofs.Powers.{powers-length, table-powers}
 use Rattle.lending.specs.Accepted.{Accepted}
+use Rattle.lending.proofs.Front.{front-of, cleared-again}
 use Rattle.naive_residue.specs.Ready.{Ready}
 use Rattle.split_residue.specs.Ready.{InPlace}
-use Rattle.type2and3_plans.specs.Doubled.{Doubled}
-
--- n entries written over the front
-module _ (n : ℕ) (front s : List ℕ) (whole : length front ≡ n) where
-  pub front-of : take (n - 0) (front ++ drop n s) ≡ front
-  front-of = ap (λ (m : ℕ). take m (front ++ drop n s)) (Nat.sub-zero n ∙ sym whole) ∙ take-append-seam front (drop n s)
-
-  rest-of : drop n (front ++ drop n s) ≡ drop n s
-  rest-of = ap (λ (m : ℕ). drop m (front ++ drop n s)) (sym whole) ∙ drop-append-seam front (drop n s)
-
-  pub cleared-again : cleared 0 n (front ++ drop n s) ≡ cleared 0 n s
-  cleared-again = ap (λ (rest : List ℕ). replicate n 0 ++ rest) rest-of
-
-  -- the same of a front that was lent as the part from 0 up to n
-  pub lent-cleared : cleared 0 n (front ++ drop (n - 0) s) ≡ cleared 0 n s
-  lent-cleared = ap (λ (m : ℕ). cleared 0 n (front ++ drop m s)) (Nat.sub-zero n) ∙ cleared-again
+use Rattle.naive_residue.specs.Doubled.{Doubled}
 
 module _ {least n k : ℕ} {buffer : List ℕ} (a : Accepted least n buffer k) where
   pub accepted-doubled : Doubled n
   accepted-doubled = record { times = a .exponent; small = a .small; power = a .power }
-
-  pub accepted-small : n ≤ 1024
-  accepted-small = let most : 2 ^ a .exponent ≤ 1024 = pow-mono (a .small) in omega (arith, a .power)
 
   copied-is : (s : List ℕ) → copied buffer s ≡ buffer ++ drop n s
   copied-is s = ap (λ (m : ℕ). buffer ++ drop m s) (a .whole)
@@ -46,17 +26,17 @@ module _ {least n k : ℕ} {buffer : List ℕ} (a : Accepted least n buffer k) w
   copied-front s t is = ap (take (n - 0)) (is ∙ copied-is s) ∙ front-of n buffer s (a .whole)
 
   pub copied-cleared : (s t : List ℕ) → t ≡ copied buffer s → cleared 0 n t ≡ cleared 0 n s
-  copied-cleared s t is = ap (cleared 0 n) (is ∙ copied-is s) ∙ cleared-again n buffer s (a .whole)
+  copied-cleared s t is = ap (cleared 0 n) (is ∙ copied-is s) ∙ cleared-again n buffer s (a .whole) 0
 
-  pub accepted-ready : (unit : ℕ) (table x out : List ℕ) → unit * n ≡ 2048 → table ≡ powersTable 8192 → x ≡ buffer → length out ≡ length buffer
-      → Ready 4 unit table x out
+  pub accepted-ready : (unit : ℕ) (table x out : List ℕ) → unit * n ≡ 1024 → table ≡ powersTable 8192 → x ≡ buffer → length out ≡ length buffer
+      → Ready 4 (2 * unit) table x out
   accepted-ready unit table x out units is same long =
       record {
         powers = table-powers 8192 table refl is;
         residues = subst Residues (sym same) (a .residues);
         same = long ∙ ap length (sym same);
         whole =
-            ap (λ (y : List ℕ). unit * (4 * length y)) same ∙ ap (λ (m : ℕ). unit * (4 * m)) (a .whole)
+            ap (λ (y : List ℕ). 2 * unit * (4 * length y)) same ∙ ap (λ (m : ℕ). 2 * unit * (4 * m)) (a .whole)
             ∙ omega (arith, units)
             ∙ sym (ap length is ∙ powers-length 8192);
       }

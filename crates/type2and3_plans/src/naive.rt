@@ -1,14 +1,13 @@
 // type2and3_naive.rs over residues, in place: every output is its sum of n terms. What is required here, the tests of a call have shown.
 ghost use mathlib.Core.Path.{_≡_};
-ghost use Prim.Native.Nat.{_*_};
 ghost use lib.ListN.{length};
 ghost use Rattle.ring.specs.Part.{cleared};
 ghost use Rattle.lending.specs.Accepted.{Accepted};
 ghost use Rattle.naive_residue.specs.Ready.{Ready};
-ghost use Rattle.type2and3_plans.specs.Doubled.{Doubled};
 ghost use Rattle.type2and3_plans.specs.Sum.{sumBy};
 use crate::Transform;
 use naive_residue::type2and3_naive;
+use naive_residue::units::unit;
 
 // The sum of the transform that is asked for, from one slice into another.
 fn sums(which: Transform, table: &[u32], unit: usize, x: &[u32], out: &mut [u32])
@@ -23,20 +22,6 @@ fn sums(which: Transform, table: &[u32], unit: usize, x: &[u32], out: &mut [u32]
     }
 }
 
-// How many of the 8,192 powers make up 1/(4n) of a turn: 2048/n, halved as often as n was doubled, since n is a power of two.
-fn unit(n: usize) -> usize
-    requires { ⌜ Doubled n ⌝ }
-    ensures { λ r. ⌜ r * n ≡ 2048 ⌝ }
-{
-    let mut units = 2048;
-    let mut length = 1;
-    while length < n {
-        units /= 2;
-        length *= 2;
-    }
-    units
-}
-
 // An accepted call: the buffer is copied to scratch, the sums are written over it, and scratch is cleared.
 pub fn transform(which: Transform, n: usize, buffer: &mut [u32], scratch: &mut [u32])
     requires { ⌜ Accepted 1 n (now buffer) (length (now scratch)) ⌝ }
@@ -44,6 +29,6 @@ pub fn transform(which: Transform, n: usize, buffer: &mut [u32], scratch: &mut [
 {
     lending::copy(buffer, scratch);
     let table = powers::powers();
-    sums(which, &table, unit(n), &scratch[0..n], buffer);
+    sums(which, &table, 2 * unit(n), &scratch[0..n], buffer);
     lending::clear(scratch, n);
 }

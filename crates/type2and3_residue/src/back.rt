@@ -1,7 +1,7 @@
 // The way back: DCT-III after DCT-II is n/2 times the buffer. Stated of the calls, it is the promise of this one.
 ghost use mathlib.Core.Path.{_≡_};
 ghost use Rattle.sums.specs.Call.{outcome, inPlace};
-ghost use Rattle.type2and3_residue.specs.Back.{timesHalfLength};
+ghost use Rattle.sums.specs.Transform.{timesHalfLength};
 use crate::calls;
 use answers::Answer;
 

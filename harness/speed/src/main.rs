@@ -2,9 +2,11 @@
 //!
 //!     speed                       all routines at N = 16, 64, 256 and 1024: a markdown table of times
 //!     speed calls ROUTINE N K     K calls of one routine, at most 64, for a program that counts instructions
+mod interface;
 mod routine;
 
-use routine::{Routine, NAMES};
+use routine::{names, Routine, ROWS};
+use std::collections::HashMap;
 use std::hint::black_box;
 use std::process::exit;
 use std::time::Instant;
@@ -30,16 +32,22 @@ fn time(routine: &mut Routine, calls: usize) -> f64 {
     start.elapsed().as_nanos() as f64 / calls as f64
 }
 
-/// Stops unless type 3 undoes type 2 up to N/2, for the fast routines, the naive ones and the oracle's: no wrong routine is timed.
+/// Stops unless type 3 undoes type 2 and type 4 itself up to N/2, and the IMDCT the MDCT, for the fast routines, the naive ones and the
+/// oracle's: no wrong routine is timed.
 fn check(len: usize) {
     for pair in [
         ["dct2_fast", "dct3_fast"],
         ["dct2_naive", "dct3_naive"],
         ["dct2_oracle", "dct3_oracle"],
+        ["dct4_fast", "dct4_fast"],
+        ["dct4_oracle", "dct4_oracle"],
+        ["mdct_fast", "imdct_fast"],
+        ["mdct_naive", "imdct_naive"],
+        ["mdct_oracle", "imdct_oracle"],
     ] {
         let [mut forth, mut back] = pair.map(|name| Routine::new(name, len).unwrap());
         if !forth.undone_by(&mut back) {
-            eprintln!("N = {len}: {} does not undo {} up to N/2", pair[1], pair[0]);
+            eprintln!("N = {len}: {} does not undo {}", pair[1], pair[0]);
             exit(1);
         }
     }
@@ -55,33 +63,47 @@ fn table() {
     let mut routines = Vec::new();
     for len in LENGTHS {
         check(len);
-        for name in NAMES {
+        for name in names() {
             let mut routine = Routine::new(name, len).unwrap();
             time(&mut routine, 2);
             let calls = (BATCH_NANOSECONDS / time(&mut routine, 3)).max(1.0) as usize;
-            routines.push((routine, calls, Vec::new()));
+            routines.push((len, name, routine, calls, Vec::new()));
         }
     }
     for _ in 0..ROUNDS {
-        for (routine, calls, times) in &mut routines {
+        for (_, _, routine, calls, times) in &mut routines {
             // One call that is not timed brings the routine's memory back into the caches.
             time(routine, 1);
             times.push(time(routine, *calls));
         }
     }
-    let medians: Vec<f64> = routines.iter_mut().map(|(_, _, times)| median(times)).collect();
+    let medians: HashMap<(usize, &str), f64> = routines
+        .iter_mut()
+        .map(|(len, name, _, _, times)| ((*len, *name), median(times)))
+        .collect();
 
     println!("Nanoseconds per call, the median of {ROUNDS} rounds in one run; every round times all routines at all lengths.");
     println!("Every call works on a buffer refilled with the same input, and the refill is within the timing, for all alike. A");
     println!("residue call includes its tests for a refusal and zeroes its scratch; the oracle tests lengths alone and leaves its");
-    println!("scratch as it comes. The oracle is rustdct's split radix on f64 with naive leaves at lengths 1 and 2.");
+    println!(
+        "scratch as it comes. The oracle is rustdct's split radix on f64 with naive leaves at lengths 1 and 2, with type 4 and the"
+    );
+    println!("MDCT over it. MDCT and IMDCT are under the sine window.");
     println!();
     println!("| N | transform | residue fast | residue naive | oracle f64 | fast / oracle | naive / fast |");
     println!("|---:|---|---:|---:|---:|---:|---:|");
-    for (len, row) in LENGTHS.iter().zip(medians.chunks(NAMES.len())) {
-        for (transform, fast, naive, oracle) in [("DCT-II", row[0], row[2], row[4]), ("DCT-III", row[1], row[3], row[5])] {
-            let (to_oracle, to_fast) = (fast / oracle, naive / fast);
-            println!("| {len} | {transform} | {fast:.0} | {naive:.0} | {oracle:.0} | {to_oracle:.2} | {to_fast:.1} |");
+    for len in LENGTHS {
+        for row in ROWS {
+            let [fast, oracle] = [row.fast, row.oracle].map(|name| medians[&(len, name)]);
+            let (naive, to_fast) = match row.naive.map(|name| medians[&(len, name)]) {
+                Some(naive) => (format!("{naive:.0}"), format!("{:.1}", naive / fast)),
+                None => ("–".to_string(), "–".to_string()),
+            };
+            let to_oracle = fast / oracle;
+            println!(
+                "| {len} | {} | {fast:.0} | {naive} | {oracle:.0} | {to_oracle:.2} | {to_fast} |",
+                row.name
+            );
         }
     }
 }
@@ -115,7 +137,8 @@ fn main() {
         _ => None,
     };
     if done.is_none() {
-        eprintln!("usage: speed, or speed calls ROUTINE N K, where ROUTINE is one of {NAMES:?}, N one of {LENGTHS:?}, K at most {MOST_CALLS}");
+        let names = names();
+        eprintln!("usage: speed, or speed calls ROUTINE N K, where ROUTINE is one of {names:?}, N one of {LENGTHS:?}, K at most {MOST_CALLS}");
         exit(2);
     }
 }

@@ -1,97 +1,81 @@
--- `window_residue::test_window` meets its contract: each return rewrites the answer by the tests that led there. Assumes nothing.
-use Prim.Native.Nat.{ℕ, _≤_}
-use mathlib.Core.Bool.{not}
-use mathlib.Core.List.{List}
+-- `window_residue::test_window` meets its contract: past the first three tests the window's own test decides. Assumes nothing.
+use Prim.Native.Nat.{_*_}
+use mathlib.Core.Bool.{Bool, true, not}
 use mathlib.Core.Path.{_≡_, sym, _∙_}
-use native.Mathlib.Omega.{arith}
+use native.Mathlib.Nat.{zero-mul}
 use borrow.Author.Needs.{needs}
 use denote.Ref.{now}
-use Rattle.answers.specs.Refuse.{refuse}
+use lib.ListN.{length}
+use Rattle.answers.specs.Refuse.{transformAnswer, refuse}
 use Rattle.answers.specs.declared.Answer.the-variants.{Done}
 use Rattle.answers.specs.declared.Refusal.the-variants.{Window}
+use Rattle.lending.proofs.Accepted.{done-passed}
 use Rattle.lending.proofs.Bad.{sound-residues}
 use Rattle.lending.proofs.Lengths.{fit-lengths}
-use Rattle.lending.proofs.Sizes.{allowed-small}
-use Rattle.lending.proofs.Tests.{passed}
+use Rattle.lending.proofs.Tests.{past-residues, residues-refused}
+use Rattle.sums.specs.Bad.{soundEntries}
 use Rattle.sums.specs.Call.{windowAnswer}
+use Rattle.sums.specs.Lengths.{lengthsFit}
+use Rattle.sums.specs.Size.{allowedSize}
+use Rattle.sums.specs.Window.{acceptedWindow}
 use Rattle.window_residue.proofs.test_window.Statement.{statement}
 use Rattle.window_residue.proofs.test_window.Tie as tie
 
--- the size is at most 1024 once it is allowed
-small : (c : tie.Else1) → c .before .before .before .args .n ≤ 1024
-small c = allowed-small _ _ (passed (c .before .allowed-size .ensures) (c .if1 .left))
+module _ (c : tie.Start) where
+  abbrev size : Bool
+  size = allowedSize 2 (c .args .n)
 
-returns : tie.Need-returns
-returns c = simp (← c .before .allowed-size .ensures, c .if1 .taken)
+  abbrev fit : Bool
+  fit = lengthsFit (length (now (c .args .window))) (2 * c .args .n) 0 0
 
-mul-lengths-fit : tie.Need-mul-lengths-fit
-mul-lengths-fit c = record { fits = omega (arith, small c) }
+  abbrev entries : Bool
+  entries = soundEntries (now (c .args .window))
 
-returns-2 : tie.Need-returns-2
-returns-2 c =
-    simp (
-      ← c .before .before .before .allowed-size .ensures,
-      c .before .before .if1 .left,
-      ← c .before .lengths-fit .ensures,
-      c .if2 .taken,
-    )
+  abbrev rules : Bool
+  rules = acceptedWindow (c .args .n) (now (c .args .window))
 
-returns-3 : tie.Need-returns-3
-returns-3 c =
-    simp (
-      ← c .before .before .before .before .before .allowed-size .ensures,
-      c .before .before .before .before .if1 .left,
-      ← c .before .before .before .lengths-fit .ensures,
-      c .before .before .if2 .left,
-      ← c .before .sound .ensures,
-      c .if3 .taken,
-    )
+-- what the first three tests were answered; no scratch is needed
+first-three : (c : tie.After-entries-answer)
+    → c .entries-answer .result ≡ transformAnswer (size (c .before .before)) (fit (c .before .before)) (entries (c .before .before)) true
+first-three c = rw zero-mul at (c .entries-answer .ensures)
 
 accepted-requires : tie.Need-accepted-requires
 accepted-requires c κs =
-    let fit = passed (c .before .before .before .lengths-fit .ensures) (c .before .before .if2 .left) in (
-      fit-lengths _ _ 0 0 fit .0,
-      small (c .before .before .before .before),
-      sound-residues _ (passed (c .before .sound .ensures) (c .if3 .left)),
-    )
+    let asked = c .before .before in
+    let start = asked .before .before in
+    let tests = done-passed (size start) (fit start) (entries start) true (sym (first-three asked) ∙ c .enum-told .given .1) in
+    (fit-lengths _ _ 0 0 (tests .1) .0, tests .0, sound-residues _ (tests .2))
 
--- past the first three tests the window's own test decides
-module _ (c : tie.After-accepted) where
-  abbrev n : ℕ
-  n = c .before .before .before .before .before .before .before .before .args .n
+decided : (c : tie.After-accepted)
+    → windowAnswer (c .before .before .before .before .before .args .n) (now (c .before .before .before .before .before .args .window))
+    ≡ refuse (not (c .accepted .result)) Window Done
+decided c =
+    let told = c .before in
+    let asked = told .before .before in
+    let start = asked .before .before in
+    past-residues (size start) (fit start) (entries start) (rules start) (first-three asked) (told .enum-told .given .1)
+    ∙ simp (c .accepted .ensures)
 
-  abbrev window : List ℕ
-  window = now (c .before .before .before .before .before .before .before .before .args .window)
+returns : tie.Need-returns
+returns c = sym (decided (c .before) ∙ simp (c .if1 .taken))
 
-  decided : windowAnswer n window ≡ refuse (not (c .accepted .result)) Window Done
-  decided =
-      simp (
-        ← c .before .before .before .before .before .before .allowed-size .ensures,
-        c .before .before .before .before .before .if1 .left,
-        ← c .before .before .before .before .lengths-fit .ensures,
-        c .before .before .before .if2 .left,
-        ← c .before .before .sound .ensures,
-        c .before .if3 .left,
-        c .accepted .ensures,
-      )
+returns-2 : tie.Need-returns-2
+returns-2 c = c .before .before .enum-told .given .1 ∙ sym (decided (c .before) ∙ simp (c .if1 .left))
 
-returns-4 : tie.Need-returns-4
-returns-4 c = sym (decided (c .before) ∙ simp (c .if4 .taken))
-
-returns-5 : tie.Need-returns-5
-returns-5 c = sym (decided (c .before) ∙ simp (c .if4 .left))
+returns-3 : tie.Need-returns-3
+returns-3 c =
+    let asked = c .before .before in
+    let start = asked .before .before in
+    residues-refused (size start) (fit start) (entries start) (rules start) (first-three asked) _ (c .enum-told2 .given .1)
 
 pub test-window-spec : {M : Type 1} → statement M
 test-window-spec =
     tie.close
     (tie.spec
     (λ c κs. search needs)
-    returns
-    mul-lengths-fit
-    (λ c κs. search needs)
-    returns-2
-    (λ c κs. search needs)
-    returns-3
+    (λ c. search needs)
     accepted-requires
-    returns-4
-    returns-5)
+    returns
+    (λ c. search needs)
+    returns-2
+    returns-3)

@@ -14,7 +14,8 @@ abbrev μ-loop : tie.MeasureT-loop
 μ-loop start out₀ state₀ i₀ i-end out state i = length out₀ - i
 
 loop-again : tie.Need-loop-again Inv-loop μ-loop
-loop-again c = (stored-more (c .before .loop .inv .0) (omega arith) (omega arith), omega arith)
+loop-again c =
+    (stored-more (c .before .before .loop .inv .0) (omega arith) (omega (arith, c .reduce .ensures)), omega arith)
 
 returns : tie.Need-returns Inv-loop μ-loop
 returns c = stored-all (c .before .loop .inv .0) (omega arith)
@@ -27,7 +28,7 @@ fill-spec =
     μ-loop
     (λ c. omega arith)
     (λ c. omega arith)
-    (λ c. omega arith)
+    (λ c κs. omega arith)
     (λ c. omega arith)
     (λ c. omega arith)
     (λ c. omega arith)

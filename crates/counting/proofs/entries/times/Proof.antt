@@ -5,8 +5,8 @@ use Rattle.counting.proofs.Stored.{product-fits}
 use Rattle.counting.proofs.entries.times.Statement.{statement}
 use Rattle.counting.proofs.entries.times.Tie as tie
 
-mul-result : tie.Need-mul-result
-mul-result c = record { fits = product-fits (c .args .a) (c .args .factor) (search needs) (c .pre) }
+mul-reduce : tie.Need-mul-reduce
+mul-reduce c = record { fits = product-fits (c .args .a) (c .args .factor) (search needs) (c .pre) }
 
 pub times-spec : {M : Type 1} → statement M
-times-spec = tie.close (tie.spec mul-result (λ c. search needs) (λ c. search needs))
+times-spec = tie.close (tie.spec mul-reduce (λ c κs. search needs) (λ c. search needs))

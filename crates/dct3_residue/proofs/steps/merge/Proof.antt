@@ -27,7 +27,7 @@ Turn = tie.In-loop Inv-loop μ-loop
 abbrev start : Turn → tie.Start Inv-loop μ-loop
 start c = c .before .before .before .before .before
 
-room : (c : Turn) → Room (c .before .loop .i) (start c .args .q) (length (start c .args .s .now)) (length (c .before .loop .x))
+room : (c : Turn) → Room 4 (c .before .loop .i) (start c .args .q) (length (start c .args .s .now)) (length (c .before .loop .x))
 room c = record {
   turn = c .loop-test .taken;
   small = omega (arith, levels-bound (start c .pre .levels));

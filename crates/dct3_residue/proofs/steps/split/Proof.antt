@@ -23,7 +23,7 @@ Turn = tie.In-loop Inv-loop μ-loop
 abbrev start : Turn → tie.Start Inv-loop μ-loop
 start c = c .before .before .before .before .before .before .before .before .before .before
 
-room : (c : Turn) → (1 ≤ c .before .loop .i) × Room (c .before .loop .i) (start c .args .q) (length (start c .args .x .now)) (length (c .before .loop .s))
+room : (c : Turn) → (1 ≤ c .before .loop .i) × Room 4 (c .before .loop .i) (start c .args .q) (length (start c .args .x .now)) (length (c .before .loop .s))
 room c = (
   c .before .loop .inv .dealt .some,
   record {

@@ -2,7 +2,7 @@
 use native.Mathlib.Omega.{arith}
 use borrow.Author.Needs.{needs}
 use Rattle.sums.proofs.Cosines.{table-cosines}
-use Rattle.type2and3_plans.proofs.Accepted.{accepted-small}
+use Rattle.lending.proofs.Accepted.{accepted-small}
 use Rattle.type2and3_plans.proofs.fast.transform.Statement.{statement}
 use Rattle.type2and3_plans.proofs.fast.transform.Tie as tie
 

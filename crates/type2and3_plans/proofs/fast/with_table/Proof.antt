@@ -3,7 +3,8 @@
 use native.Mathlib.Omega.{arith}
 use denote.Ref.{now}
 use mathlib.Core.Path.{_∙_}
-use Rattle.type2and3_plans.proofs.Accepted.{accepted-in-place, lent-cleared}
+use Rattle.lending.proofs.Front.{lent-cleared}
+use Rattle.type2and3_plans.proofs.Accepted.{accepted-in-place}
 use Rattle.type2and3_plans.proofs.fast.with_table.Statement.{statement}
 use Rattle.type2and3_plans.proofs.fast.with_table.Tie as tie
 
@@ -18,7 +19,7 @@ returns c =
     let start = split .before .before .before .before .before .before in (
       split .split .ensures,
       c .before .before .clear .ensures
-          ∙ lent-cleared (start .args .n) (split .split .last .1 .1 .1 .0) (now (start .args .scratch)) (omega arith),
+          ∙ lent-cleared (start .args .n) (split .split .last .1 .1 .1 .0) (now (start .args .scratch)) (omega arith) 0,
     )
 
 pub with-table-spec : {M : Type 1} → statement M

@@ -1,6 +1,8 @@
 -- `type2and3_plans::naive::transform` meets its contract: the sums read the buffer where it was copied to, and clearing scratch takes the copy away. Assumes nothing.
 use mathlib.Core.Path.{_∙_, ap}
+use native.Mathlib.Nat as Nat
 use native.Mathlib.Omega.{arith}
+use Rattle.ring.proofs.Factor.{factor-bound}
 use Rattle.type2and3_plans.proofs.Accepted.{accepted-doubled, accepted-ready, copied-front, copied-cleared}
 use Rattle.type2and3_plans.specs.Sum.{sumBy}
 use Rattle.type2and3_plans.proofs.naive.transform.Statement.{statement}
@@ -34,6 +36,7 @@ transform-spec =
     (λ c κs. omega arith)
     (λ c. omega arith)
     unit-requires
+    (λ c. omega (arith, factor-bound _ _ 1024 (Nat.mul-comm _ _ ∙ c .unit .ensures) (omega arith)))
     (λ c. omega arith)
     (λ c. omega arith)
     (λ c. omega arith)

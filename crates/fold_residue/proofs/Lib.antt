@@ -1,0 +1,2 @@
+pub mod OneReduction
+pub mod Room

@@ -1,0 +1,115 @@
+-- An MDCT or IMDCT that is answered `Done` has passed its tests (mdct-accepted, imdct-accepted), and a call that does its work exactly where it is answered so has the
+-- outcome that is promised (mdct-done, mdct-refused, imdct-done, imdct-refused). Assumes nothing.
+use mathlib.Core.Bool.{Bool, true, false}
+use mathlib.Core.List.{List, _++_}
+use mathlib.Core.Path.{_≡_, sym, _∙_, ap}
+use Prim.Native.Nat.{ℕ, _*_, _≤_}
+use lib.Dec.{T, eqb, eqb→eq}
+use lib.ListN.{length, take, drop}
+use Rattle.answers.specs.declared.Answer.{Answer}
+use Rattle.answers.specs.declared.Answer.the-variants.{Done, No}
+use Rattle.answers.specs.declared.Refusal.{Refusal}
+use Rattle.lending.specs.Accepted.{Block, MdctAccepted, ImdctAccepted}
+use Rattle.lending.proofs.Accepted.{done-passed, outcome-of-done, outcome-of-refused}
+use Rattle.lending.proofs.Bad.{sound-residues}
+use Rattle.lending.proofs.Lengths.{fit-lengths}
+use Rattle.sums.proofs.Sizes.{allowed-exponent}
+use Rattle.ring.specs.Finite.{both}
+use Rattle.ring.specs.Part.{cleared}
+use Rattle.ring.proofs.Below.{both-left, both-right}
+use Rattle.sums.specs.Bad.{soundEntries}
+use Rattle.sums.specs.Call.{outcome, spread, spreadOf, blockLengths, mdctAnswer, mdctCall, imdctAnswer, imdctCall}
+use Rattle.sums.specs.Lengths.{lengthsFit}
+use Rattle.sums.specs.Residue.{Residues}
+use Rattle.sums.specs.Size.{allowedSize}
+use Rattle.sums.specs.Transform.{mdctSum, imdctSum}
+use Rattle.sums.specs.Window.{acceptedWindow}
+use Rattle.mdct_answers.specs.Searched.{searched, blockSound, blockAnswer}
+
+-- four tests in a row
+all-four : (w x y z : Bool) → T (both w (both x (both y z))) → T w × T x × T y × T z
+all-four w x y z t =
+    let rest = both-right w (both x (both y z)) t in
+    let last = both-right x (both y z) rest in
+    (both-left w (both x (both y z)) t, both-left x (both y z) rest, both-left y z last, both-right y z last)
+
+module _ (parts n : ℕ) (a b c w : List ℕ) (scratchLength : ℕ) where
+  -- what the tests of the lengths and of the residues say, one by one
+  lengths : T (blockLengths parts n a b c w scratchLength)
+      → T (eqb (length a) n) × T (eqb (length b) n) × T (eqb (length c) n) × T (lengthsFit (length w) (2 * n) scratchLength (parts * n))
+  lengths = all-four (eqb (length a) n) (eqb (length b) n) (eqb (length c) n) (lengthsFit (length w) (2 * n) scratchLength (parts * n))
+
+  sounds : (added : Bool) → T (blockSound added a b c w) → T (soundEntries a) × T (soundEntries b) × T (searched added c) × T (soundEntries w)
+  sounds added = all-four (soundEntries a) (soundEntries b) (searched added c) (soundEntries w)
+
+  pub window-fits : T (blockLengths parts n a b c w scratchLength) → (length w ≡ 2 * n) × (parts * n ≤ scratchLength)
+  window-fits t = fit-lengths (length w) (2 * n) scratchLength (parts * n) (lengths t .3)
+
+  pub window-sound : (added : Bool) → T (blockSound added a b c w) → Residues w
+  window-sound added t = sound-residues w (sounds added t .3)
+
+  module _ (added : Bool) (done : blockAnswer added parts n a b c w scratchLength ≡ Done) where
+    passed : T (allowedSize 2 n) × T (blockLengths parts n a b c w scratchLength) × T (blockSound added a b c w) × T (acceptedWindow n w)
+    passed = done-passed (allowedSize 2 n) (blockLengths parts n a b c w scratchLength) (blockSound added a b c w) (acceptedWindow n w) done
+
+    block : Block parts n a b c w scratchLength
+    block =
+        let size = allowed-exponent 2 n (passed .0) in
+        let tests = lengths (passed .1) in
+        record {
+          exponent = size .0;
+          small = size .1;
+          power = size .2;
+          enough = size .3;
+          a-length = eqb→eq (length a) n (tests .0);
+          b-length = eqb→eq (length b) n (tests .1);
+          c-length = eqb→eq (length c) n (tests .2);
+          window-length = window-fits (passed .1) .0;
+          room = window-fits (passed .1) .1;
+          window-residues = window-sound added (passed .2);
+        }
+
+    searches : T (soundEntries a) × T (soundEntries b) × T (searched added c) × T (soundEntries w)
+    searches = sounds added (passed .2)
+
+pub mdct-accepted : (parts n : ℕ) (first second output w : List ℕ) (scratchLength : ℕ) → mdctAnswer parts n first second output w scratchLength ≡ Done
+    → MdctAccepted parts n first second output w scratchLength
+mdct-accepted parts n first second output w scratchLength done =
+    let tests = searches parts n first second output w scratchLength false done in
+    record {
+      block = block parts n first second output w scratchLength false done;
+      first-residues = sound-residues first (tests .0);
+      second-residues = sound-residues second (tests .1);
+    }
+
+pub imdct-accepted : (parts n : ℕ) (input first second w : List ℕ) (scratchLength : ℕ) → imdctAnswer parts n input first second w scratchLength ≡ Done
+    → ImdctAccepted parts n input first second w scratchLength
+imdct-accepted parts n input first second w scratchLength done =
+    let tests = searches parts n input first second w scratchLength true done in
+    record {
+      block = block parts n input first second w scratchLength true done;
+      input-residues = sound-residues input (tests .0);
+      first-residues = sound-residues first (tests .1);
+      second-residues = sound-residues second (tests .2);
+    }
+
+module _ (parts n : ℕ) (first second output w scratch : List ℕ) {answer : Answer}
+    (asked : answer ≡ mdctAnswer parts n first second output w (length scratch)) where
+  pub mdct-done : answer ≡ Done → {output' scratch' : List ℕ} → output' ≡ mdctSum n w (first ++ second) → scratch' ≡ cleared 0 (parts * n) scratch
+      → outcome answer output' scratch' ≡ mdctCall parts n first second output w scratch
+  mdct-done = outcome-of-done (λ overwritten. mdctSum n w (first ++ second)) (parts * n) output scratch asked
+
+  pub mdct-refused : (r : Refusal) → answer ≡ No r → outcome answer output scratch ≡ mdctCall parts n first second output w scratch
+  mdct-refused = outcome-of-refused (λ overwritten. mdctSum n w (first ++ second)) (parts * n) output scratch asked
+
+module _ (parts n : ℕ) (input first second w scratch : List ℕ) {answer : Answer}
+    (asked : answer ≡ imdctAnswer parts n input first second w (length scratch)) where
+  pub imdct-done : answer ≡ Done → {first' second' scratch' : List ℕ} → first' ≡ take n (imdctSum n w (first ++ second) input)
+      → second' ≡ drop n (imdctSum n w (first ++ second) input) → scratch' ≡ cleared 0 (parts * n) scratch
+      → spread answer first' second' scratch' ≡ imdctCall parts n input first second w scratch
+  imdct-done done begun ended zeroed =
+      (λ i. spread (done i) (begun i) (ended i) (zeroed i)) ∙ ap (spreadOf parts n input first second w scratch) (sym done ∙ asked)
+
+  pub imdct-refused : (r : Refusal) → answer ≡ No r → spread answer first second scratch ≡ imdctCall parts n input first second w scratch
+  imdct-refused r refused =
+      ap (λ (a : Answer). spread a first second scratch) refused ∙ ap (spreadOf parts n input first second w scratch) (sym refused ∙ asked)

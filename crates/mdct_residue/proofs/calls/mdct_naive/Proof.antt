@@ -1,0 +1,46 @@
+-- `mdct_residue::calls::mdct_naive` meets its contract: where the answer is `Done` the tests were passed and the output is its sum; else nothing was changed. Assumes nothing.
+use mathlib.Core.Path.{sym, _∙_}
+use native.Mathlib.Omega.{arith}
+use borrow.Author.Needs.{needs}
+use denote.Ref.{now}
+use Rattle.mdct_answers.proofs.Accepted.{mdct-accepted, mdct-done, mdct-refused}
+use Rattle.mdct_residue.proofs.Unneeded.{mdct-unneeded, none-cleared}
+use Rattle.mdct_residue.proofs.calls.mdct_naive.Statement.{statement}
+use Rattle.mdct_residue.proofs.calls.mdct_naive.Tie as tie
+
+mdct-requires : tie.Need-mdct-requires
+mdct-requires c κs =
+    let told = c .before in
+    let a = told .before .before .before .before .before .before .before .before .before .args in
+    mdct-unneeded
+    (mdct-accepted 0 (a .n) (now (a .first)) (now (a .second)) (now (a .output)) (now (a .window)) _ (sym (told .before .before .mdct-answer .ensures) ∙ told .enum-told .given .1))
+
+returns : tie.Need-returns
+returns c =
+    let done = c .before .before in
+    let told = done .before .before in
+    let asked = told .before .before in
+    let a = asked .before .before .before .before .before .before .before .args in
+    mdct-done 0 (a .n) (now (a .first)) (now (a .second)) (now (a .output)) (now (a .window)) (now (a .scratch)) (asked .mdct-answer .ensures)
+    (told .enum-told .given .1)
+    (done .mdct .ensures)
+    (none-cleared (a .n) (now (a .scratch)))
+
+returns-2 : tie.Need-returns-2
+returns-2 c =
+    let asked = c .before .before in
+    let a = asked .before .before .before .before .before .before .before .args in
+    mdct-refused 0 (a .n) (now (a .first)) (now (a .second)) (now (a .output)) (now (a .window)) (now (a .scratch)) (asked .mdct-answer .ensures) _ (c .enum-told2 .given .1)
+
+pub mdct-naive-spec : {M : Type 1} → statement M
+mdct-naive-spec =
+    tie.close
+    (tie.spec
+    (λ c κs. omega arith)
+    (λ c. search needs)
+    mdct-requires
+    (λ c. search needs)
+    (λ c. search needs)
+    returns
+    (λ c. search needs)
+    returns-2)

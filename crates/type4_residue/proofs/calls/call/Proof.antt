@@ -1,0 +1,48 @@
+-- `type4_residue::calls::call` meets its contract: where the answer is `Done` the tests were passed and the transform was made; else nothing was changed. Assumes nothing.
+use mathlib.Core.Path.{sym, _∙_}
+use native.Mathlib.Omega.{arith}
+use denote.Ref.{now}
+use Rattle.lending.proofs.Accepted.{answered-accepted, outcome-done, outcome-refused}
+use Rattle.type4_plans.specs.Sum.{sumBy}
+use Rattle.type4_residue.proofs.calls.call.Statement.{statement}
+use Rattle.type4_residue.proofs.calls.call.Tie as tie
+
+transform-requires : tie.Need-transform-requires
+transform-requires c κs =
+    let told = c .before .before in
+    answered-accepted 2 _ _ _ (sym (told .before .before .in-place-answer .ensures) ∙ told .enum-told .given .1)
+
+returns : tie.Need-returns
+returns c =
+    let done = c .before .before .before .before in
+    let told = done .before .before .before in
+    let asked = told .before .before in
+    let start = asked .before .before .before .before in
+    outcome-done 2 (start .args .n) (sumBy (start .args .which)) (now (start .args .buffer)) (now (start .args .scratch))
+    (asked .in-place-answer .ensures)
+    (told .enum-told .given .1)
+    (done .transform .ensures .0)
+    (done .transform .ensures .1)
+
+returns-2 : tie.Need-returns-2
+returns-2 c =
+    let asked = c .before .before in
+    let start = asked .before .before .before .before in
+    outcome-refused 2 (start .args .n) (sumBy (start .args .which)) (now (start .args .buffer)) (now (start .args .scratch))
+    (asked .in-place-answer .ensures)
+    _
+    (c .enum-told2 .given .1)
+
+pub call-spec : {M : Type 1} → statement M
+call-spec =
+    tie.close
+    (tie.spec
+    (λ c κs. omega arith)
+    (λ c. omega arith)
+    transform-requires
+    (λ c. omega arith)
+    (λ c. omega arith)
+    (λ c. omega arith)
+    returns
+    (λ c. omega arith)
+    returns-2)
