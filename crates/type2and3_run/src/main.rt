@@ -2,7 +2,6 @@
 // No count is known beforehand: each comes from a call's answer or from a comparison of entries.
 mod accept;
 mod call;
-mod print;
 mod refuse;
 mod tests;
 

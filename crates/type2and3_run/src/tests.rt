@@ -2,12 +2,20 @@
 ghost use Prim.Native.Nat.{_≤_};
 use crate::accept::agree;
 use crate::accept::back;
-use crate::print;
 use crate::refuse::Case;
 use crate::refuse::refuse;
 use counting::count;
+use counting::count::Tally;
 
 const P: u32 = 998244353;
+
+fn accepted(tally: Tally, outputs: &[u8]) {
+    print::accepted(
+        tally,
+        outputs,
+        b" entries of scratch are as they should be\n",
+    );
+}
 
 pub fn agreement() {
     print::text(
@@ -16,7 +24,7 @@ pub fn agreement() {
     let mut n = 1;
     while n <= 1024 {
         print::size(n);
-        print::accepted(agree(n, 5, 0, P - 1), b" outputs are the same by both; ");
+        accepted(agree(n, 5, 0, P - 1), b" outputs are the same by both; ");
         n = 2 * n;
     }
 }
@@ -26,7 +34,7 @@ pub fn round_trip() {
     let mut n = 1;
     while n <= 1024 {
         print::size(n);
-        print::accepted(back(n), b" outputs are N/2 times the input; ");
+        accepted(back(n), b" outputs are N/2 times the input; ");
         n = 2 * n;
     }
 }
@@ -52,7 +60,7 @@ fn size(n: usize, buffer: usize, scratch: usize)
 pub fn sizes() {
     print::text(b"Sizes.\n");
     print::size(1024);
-    print::accepted(agree(1024, 0, 0, P - 1), b" outputs are the same by both; ");
+    accepted(agree(1024, 0, 0, P - 1), b" outputs are the same by both; ");
     size(2048, 2048, 2048);
     size(0, 0, 5);
     size(3, 3, 3);
@@ -144,7 +152,7 @@ fn largest_residue(kind: usize, what: &[u8]) {
         n = 2 * n;
     }
     print::text(what);
-    print::accepted(sum, b" outputs are the same by both; ");
+    accepted(sum, b" outputs are the same by both; ");
 }
 
 pub fn residues() {

@@ -1,0 +1,18 @@
+-- `mdct_curve::step` is safe and ends. Assumes nothing.
+use native.Mathlib.Omega.{arith}
+use Rattle.mdct_curve.proofs.step.Statement.{statement}
+use Rattle.mdct_curve.proofs.step.Tie as tie
+
+pub step-spec : {M : Type 1} → statement M
+step-spec =
+    tie.close
+    (tie.spec
+    (λ c κs. omega arith)
+    (λ c κs. omega arith)
+    (λ c κs. omega arith)
+    (λ c. omega arith)
+    (λ c. omega arith)
+    (λ c. omega arith)
+    (λ c. omega arith)
+    (λ c. omega arith)
+    (λ c. omega arith))
