@@ -1,10 +1,13 @@
 /*
- * Kultygash: exact cosine and sine transforms of types 2, 3 and 4, and the MDCT with its windows, on whole numbers modulo
- * p = 998244353.
+ * Kultygash: cosine and sine transforms of types 2, 3 and 4, and the MDCT, on whole numbers modulo p = 998244353, where they are exact
+ * and have windows of their own, and on doubles, where they have the bits of rustdct 0.7.1.
  *
- * Link with libexports.a, which is for x86-64 and needs nothing beside the C library:
+ * Link with libexports.a for residues, with libexports_float.a for doubles, or with both. They are for x86-64 and need nothing beside the
+ * C library:
  *
- *     cc -I include program.c target/staticlib/libexports.a
+ *     cc -I include program.c target/staticlib/libexports.a target/staticlib/libexports_float.a
+ *
+ * What follows is said of residues; "ON DOUBLES" below says what differs there.
  *
  * NUMBERS. A residue is a whole number from 0 to p - 1. All sums below are sums of residues, taken modulo p, so they are exact:
  * nothing is rounded. Let g = 3^121856 mod p, so that g^8192 = 1 and g^4096 = p - 1, and let j = g^2048. The cosine and the sine at
@@ -38,12 +41,25 @@
  * call, the entries of the scratch that were needed are zero, and the rest of the scratch is as it was.
  *
  * WHAT THE CALLER SEES TO. No test inside a call can find these, so they are the caller's: each pointer is not null, not even where
- * its length is 0, is aligned for uint32_t and has as many entries behind it as the length says; what is lent without const overlaps
+ * its length is 0, is aligned for its entries and has as many entries behind it as the length says; what is lent without const overlaps
  * nothing else that is lent to the same call; and nothing else uses it until the call returns, nor changes what is lent with const.
  *
  * NAIVE AND FAST. The two calls of a pair make the same promise, but for the scratch that MDCT and IMDCT need. The naive one works out
  * the sums term by term, in time that grows with the square of n. The fast one uses split radix, and for the MDCT type 4, in time that
  * grows little faster than n. docs/SPEED.md says how they compare.
+ *
+ * ON DOUBLES. Every call is lent tables of cosines and sines, right after n, and is not told where they come from: it multiplies by what
+ * they hold. With tables captured from rustdct the outputs have the bits of rustdct's own, but that a NaN may be any NaN
+ * (docs/DIFFERENCES.md). So the sums below are rounded, term by term, in rustdct's order of operations.
+ *
+ *   n         naive types 2 and 3: from 1 to 1024; naive MDCT and IMDCT: even, from 2 to 1024; fast calls: as for residues
+ *   cosines, sines
+ *             naive types 2 and 3: 4 n entries each, entry k at k/(4 n) of a turn; fast calls: 8192 entries each, entry k at k/8192 of one
+ *   table     naive MDCT and IMDCT: 4 n cosines, entry k at (2 k + 1)/(8 n) of a turn
+ *   the rest  as for residues, with any doubles as entries; a window is not tested
+ *
+ * The answers are KULTYGASH_NO_SIZE, KULTYGASH_NO_LENGTH, to which a table of a wrong length belongs, and KULTYGASH_DONE. The scratch that
+ * was needed is +0.0 after an answer of 0.
  */
 #ifndef KULTYGASH_H
 #define KULTYGASH_H
@@ -130,6 +146,62 @@ uint32_t kultygash_residue_imdct_naive(size_t n, const uint32_t *input, size_t i
 uint32_t kultygash_residue_imdct_fast(size_t n, const uint32_t *input, size_t input_length, uint32_t *first, size_t first_length,
                                       uint32_t *second, size_t second_length, const uint32_t *window, size_t window_length,
                                       uint32_t *scratch, size_t scratch_length);
+
+/* ---- on doubles ---- */
+
+/* DCT-II, in place. */
+uint32_t kultygash_float_dct2_naive(size_t n, const double *cosines, size_t cosines_length, const double *sines,
+                                    size_t sines_length, double *buffer, size_t buffer_length, double *scratch,
+                                    size_t scratch_length);
+uint32_t kultygash_float_dct2_fast(size_t n, const double *cosines, size_t cosines_length, const double *sines, size_t sines_length,
+                                   double *buffer, size_t buffer_length, double *scratch, size_t scratch_length);
+
+/* DST-II, in place. */
+uint32_t kultygash_float_dst2_naive(size_t n, const double *cosines, size_t cosines_length, const double *sines,
+                                    size_t sines_length, double *buffer, size_t buffer_length, double *scratch,
+                                    size_t scratch_length);
+uint32_t kultygash_float_dst2_fast(size_t n, const double *cosines, size_t cosines_length, const double *sines, size_t sines_length,
+                                   double *buffer, size_t buffer_length, double *scratch, size_t scratch_length);
+
+/* DCT-III, in place. */
+uint32_t kultygash_float_dct3_naive(size_t n, const double *cosines, size_t cosines_length, const double *sines,
+                                    size_t sines_length, double *buffer, size_t buffer_length, double *scratch,
+                                    size_t scratch_length);
+uint32_t kultygash_float_dct3_fast(size_t n, const double *cosines, size_t cosines_length, const double *sines, size_t sines_length,
+                                   double *buffer, size_t buffer_length, double *scratch, size_t scratch_length);
+
+/* DST-III, in place. */
+uint32_t kultygash_float_dst3_naive(size_t n, const double *cosines, size_t cosines_length, const double *sines,
+                                    size_t sines_length, double *buffer, size_t buffer_length, double *scratch,
+                                    size_t scratch_length);
+uint32_t kultygash_float_dst3_fast(size_t n, const double *cosines, size_t cosines_length, const double *sines, size_t sines_length,
+                                   double *buffer, size_t buffer_length, double *scratch, size_t scratch_length);
+
+/* DCT-IV, in place. */
+uint32_t kultygash_float_dct4_fast(size_t n, const double *cosines, size_t cosines_length, const double *sines, size_t sines_length,
+                                   double *buffer, size_t buffer_length, double *scratch, size_t scratch_length);
+
+/* DST-IV, in place. */
+uint32_t kultygash_float_dst4_fast(size_t n, const double *cosines, size_t cosines_length, const double *sines, size_t sines_length,
+                                   double *buffer, size_t buffer_length, double *scratch, size_t scratch_length);
+
+/* MDCT. The output is overwritten. */
+uint32_t kultygash_float_mdct_naive(size_t n, const double *table, size_t table_length, const double *first, size_t first_length,
+                                    const double *second, size_t second_length, double *output, size_t output_length,
+                                    const double *window, size_t window_length, double *scratch, size_t scratch_length);
+uint32_t kultygash_float_mdct_fast(size_t n, const double *cosines, size_t cosines_length, const double *sines, size_t sines_length,
+                                   const double *first, size_t first_length, const double *second, size_t second_length,
+                                   double *output, size_t output_length, const double *window, size_t window_length,
+                                   double *scratch, size_t scratch_length);
+
+/* IMDCT. It adds to what first and second hold. */
+uint32_t kultygash_float_imdct_naive(size_t n, const double *table, size_t table_length, const double *input, size_t input_length,
+                                     double *first, size_t first_length, double *second, size_t second_length, const double *window,
+                                     size_t window_length, double *scratch, size_t scratch_length);
+uint32_t kultygash_float_imdct_fast(size_t n, const double *cosines, size_t cosines_length, const double *sines,
+                                    size_t sines_length, const double *input, size_t input_length, double *first,
+                                    size_t first_length, double *second, size_t second_length, const double *window,
+                                    size_t window_length, double *scratch, size_t scratch_length);
 
 #ifdef __cplusplus
 }

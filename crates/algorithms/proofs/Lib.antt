@@ -1,5 +1,6 @@
 pub mod Lists
 pub mod Inputs
+pub mod Fast
 pub mod Carried
 pub mod Twiddles
 pub mod Thirds
@@ -15,6 +16,7 @@ pub mod Fold
 pub mod Turned
 pub mod Stores
 pub mod StepTwo
+pub mod PartsTwo
 pub mod StoresThree
 pub mod Alternating
 pub mod Reversing

@@ -4,4 +4,6 @@ pub mod Naive
 pub mod Split
 pub mod Four
 pub mod Fold
+pub mod Fast
+pub mod Block
 pub mod Residues

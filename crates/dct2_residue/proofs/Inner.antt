@@ -1,5 +1,4 @@
--- The three inner transforms: what the split leaves is their inputs one after the other, which are residues, and what the merge makes of their sums is the sum
--- of the whole. Assumes nothing.
+-- The three inner transforms: their inputs are residues, and what the merge makes of their sums is the sum of the whole. Assumes nothing.
 use mathlib.Core.Path.{_≡_, refl, _∙_}
 use mathlib.Core.List.{List}
 use Prim.Native.Nat.{ℕ, _*_}
@@ -11,12 +10,10 @@ use Rattle.sums.specs.Transform.{dct2Sum}
 use Rattle.sums.proofs.Lengths.{Length}
 use Rattle.sums.proofs.Outputs.{dct2-residues}
 use Rattle.algorithms.specs.Residues.{residueOps, residueTwiddles}
-use Rattle.algorithms.specs.Split.{across, lower, upper, twiddleCos, twiddleSin, halfLow, halfHigh, cosInput, sinInput, inputDct2, inputDct4Even, inputDct4Odd, splitTwo, mergeTwo}
-use Rattle.algorithms.proofs.Inputs.{length-half, length-cosines, length-sines}
-use Rattle.algorithms.proofs.StepTwo.{split-two-is}
+use Rattle.algorithms.specs.Split.{across, lower, upper, twiddleCos, twiddleSin, halfLow, halfHigh, cosInput, sinInput, inputDct2, inputDct4Even, inputDct4Odd}
+use Rattle.algorithms.proofs.PartsTwo.{partsMerged, parts-merged}
 use Rattle.algorithms.proofs.Two.{dct2-split}
-use Rattle.split_residue.specs.Ready.{part}
-use Rattle.split_residue.proofs.Parts.{Parts, part-first, part-second, part-third}
+use Rattle.ring.proofs.Parts.{Parts}
 use Rattle.split_residue.proofs.Reduced.{turned-below, residues-tab, residues-back, residues-append}
 
 module _ (q : ℕ) (x : List ℕ) where
@@ -28,14 +25,6 @@ module _ (q : ℕ) (x : List ℕ) where
 
   abbrev pub sines : List ℕ
   sines = inputDct4Odd residueOps residueTwiddles q x
-
-  pub inner-inputs : {l : List ℕ} → l ≡ splitTwo residueOps residueTwiddles q x → Parts q halves cosines sines l
-  inner-inputs is = record {
-    half = length-half residueOps residueTwiddles q x;
-    third-quarter = length-cosines residueOps residueTwiddles q x;
-    fourth-quarter = length-sines residueOps residueTwiddles q x;
-    is = is ∙ split-two-is residueOps residueTwiddles q x;
-  }
 
   pub halves-residues : Residues halves
   unfolding inputDct2
@@ -62,11 +51,5 @@ module _ (q : ℕ) (x : List ℕ) where
         rw (sums .is)
         (residues-append _ _ (dct2-residues halves) (residues-append _ _ (dct2-residues cosines) (dct2-residues sines)))
 
-    pub sums-merged : {out : List ℕ} → Length (4 * q) → length x ≡ 4 * q
-        → out ≡ mergeTwo residueOps q (part 0 (2 * q) l) (part (2 * q) (3 * q) l) (part (3 * q) (4 * q) l) → out ≡ dct2Sum x
-    sums-merged L size is =
-        let first = part-first sums in
-        let second = part-second sums in
-        let third = part-third sums in
-        let whole = dct2-split q L x size in
-        cc
+    pub sums-merged : {out : List ℕ} → Length (4 * q) → length x ≡ 4 * q → out ≡ partsMerged residueOps q l → out ≡ dct2Sum x
+    sums-merged L size is = is ∙ parts-merged residueOps q sums ∙ dct2-split q L x size

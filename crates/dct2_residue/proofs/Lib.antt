@@ -1,3 +1,2 @@
-pub mod Merging
 pub mod Leaves
 pub mod Inner

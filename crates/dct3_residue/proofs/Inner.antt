@@ -15,8 +15,8 @@ use Rattle.algorithms.specs.Residues.{residueOps, residueTwiddles}
 use Rattle.algorithms.specs.Split.{inputEvens, oneInput, inputOne, threeInput, inputThree, splitThree, mergeThree}
 use Rattle.algorithms.proofs.Inputs.{length-evens, length-one, length-three}
 use Rattle.algorithms.proofs.Three.{dct3-split}
-use Rattle.split_residue.specs.Ready.{part}
-use Rattle.split_residue.proofs.Parts.{Parts, part-first, part-second, part-third}
+use Rattle.ring.specs.Part.{part}
+use Rattle.ring.proofs.Parts.{Parts, part-first, part-second, part-third}
 use Rattle.split_residue.proofs.Reduced.{residues-tab, residues-append}
 
 -- an entry of residues is one, and past the end stands 0

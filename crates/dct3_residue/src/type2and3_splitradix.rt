@@ -2,7 +2,8 @@
 // on one after the other, with the buffer as the inner scratch. The sine transform is the cosine transform with signs and order changed around it.
 ghost use mathlib.Core.Path.{_≡_};
 ghost use Rattle.sums.specs.Transform.{dct3Sum, dst3Sum};
-ghost use Rattle.split_residue.specs.Ready.{InPlace, PartInPlace, over};
+ghost use Rattle.ring.specs.Part.{over};
+ghost use Rattle.split_residue.specs.Ready.{InPlace, PartInPlace};
 use crate::steps;
 use split_residue::order::alternate;
 use split_residue::order::reverse;

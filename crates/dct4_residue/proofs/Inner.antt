@@ -15,11 +15,13 @@ use Rattle.algorithms.specs.Lists.{choose}
 use Rattle.algorithms.specs.Ops.{at}
 use Rattle.algorithms.specs.Residues.{residueOps, residueTwiddles}
 use Rattle.algorithms.proofs.Four.{length-left-dct4, length-right-dct4, length-left-dst4, length-right-dst4, dct4-merged, dst4-merged}
-use Rattle.split_residue.specs.Ready.{Levels, part}
-use Rattle.split_residue.proofs.Halves.{levels-bound, levels-length, quarters-whole}
+use Rattle.ring.specs.Part.{part}
+use Rattle.split_residue.specs.Ready.{Levels}
+use Rattle.ring.proofs.Powers.{quarters-whole}
+use Rattle.ring.proofs.Halves.{Halves, halves-length, part-left, part-right}
+use Rattle.split_residue.proofs.Halves.{levels-bound, levels-length}
 use Rattle.split_residue.proofs.Reduced.{residues-tab, residues-append}
 use Rattle.dct4_residue.specs.Ready.{Ready, Split, Merge}
-use Rattle.dct4_residue.proofs.Halves.{Halves, halves-length, part-left, part-right}
 
 module _ {table x s : List ℕ} (ready : Ready table x s) where
   ready-quarters : 4 * (2 * length x / 4) ≡ 2 * length x

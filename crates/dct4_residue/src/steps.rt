@@ -5,7 +5,7 @@ ghost use mathlib.Core.List.{_++_};
 ghost use Prim.Native.Nat.{_*_};
 ghost use Rattle.algorithms.specs.Residues.{residueOps, residueTwiddles};
 ghost use Rattle.algorithms.specs.Four.{leftDct4, rightDct4, leftDst4, rightDst4, mergeDct4, mergeDst4};
-ghost use Rattle.split_residue.specs.Ready.{part};
+ghost use Rattle.ring.specs.Part.{part};
 ghost use Rattle.dct4_residue.specs.Ready.{Split, Merge};
 use residue::arithmetic::double;
 use residue::arithmetic::minus;

@@ -2,7 +2,7 @@
 // Here are the transforms in place; the windows (`windows`) and the MDCT (`mdct`) are beside it.
 ghost use Rattle.sums.specs.Call.{inPlace};
 ghost use Rattle.sums.specs.Transform.{dct2Sum, dst2Sum, dct3Sum, dst3Sum, dct4Sum, dst4Sum};
-ghost use Rattle.exports.specs.Returned.{Returned};
+ghost use Rattle.sums.specs.Returned.{Returned};
 use answers::answer_number;
 use type2and3_residue::calls;
 

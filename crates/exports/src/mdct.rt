@@ -1,6 +1,6 @@
 // MDCT and IMDCT across the C interface. The naive calls need no scratch, the fast ones two parts of n.
 ghost use Rattle.sums.specs.Call.{mdctCall, imdctCall};
-ghost use Rattle.exports.specs.Returned.{Returned, ReturnedSpread};
+ghost use Rattle.sums.specs.Returned.{Returned, ReturnedSpread};
 use answers::answer_number;
 use mdct_residue::calls;
 

@@ -2,7 +2,7 @@
 ghost use mathlib.Core.List.{[]};
 ghost use Rattle.sums.specs.Call.{filled, windowAnswer};
 ghost use Rattle.sums.specs.Window.{flatWindow, sineWindow};
-ghost use Rattle.exports.specs.Returned.{Returned, ReturnedAnswer};
+ghost use Rattle.sums.specs.Returned.{Returned, ReturnedAnswer};
 use answers::answer_number;
 
 #[no_mangle]

@@ -1,5 +1,5 @@
 -- A call that is answered `Done` has passed its tests (done-passed; in place answered-accepted, accepted-answered), and its length is at most 1024 (accepted-small). A call
--- that does its work exactly where it is answered so has the outcome that is promised (outcome-of-done, outcome-of-refused; outcome-done, outcome-refused). Assumes nothing.
+-- that does its work exactly where it is answered so has the outcome that is promised (outcome-of-done, outcome-of-refused; spread-of-done, spread-of-refused; outcome-done, outcome-refused). Assumes nothing.
 use mathlib.Core.Bool.{Bool, true, false}
 use mathlib.Core.List.{List}
 use mathlib.Core.Path.{_≡_, sym, _∙_, ap, ap₂, subst}
@@ -15,7 +15,7 @@ use Rattle.answers.specs.declared.Answer.the-variants.{Done, No}
 use Rattle.ring.proofs.Below.{true-is}
 use Rattle.ring.specs.Part.{cleared}
 use Rattle.sums.specs.Bad.{soundEntries}
-use Rattle.sums.specs.Call.{inPlaceAnswer, outcome, outcomeOf, inPlace}
+use Rattle.sums.specs.Call.{inPlaceAnswer, outcome, outcomeOf, inPlace, spread, spreadOf}
 use Rattle.sums.specs.Lengths.{lengthsFit}
 use Rattle.sums.specs.Size.{allowedSize}
 use Rattle.sums.proofs.Sizes.{allowed-exponent, exponent-allowed}
@@ -60,25 +60,38 @@ pub accepted-small : {least n k : ℕ} {buffer : List ℕ} → Accepted least n 
 accepted-small a = let most : 2 ^ a .exponent ≤ 1024 = pow-mono (a .small) in omega (arith, a .power)
 
 -- the outcome of a call that asked, did what it promises where the answer was `Done`, and nothing else
-module _ (transform : List ℕ → List ℕ) (n : ℕ) (buffer scratch : List ℕ) {answer decided : Answer} (asked : answer ≡ decided) where
-  pub outcome-of-done : answer ≡ Done → {buffer' scratch' : List ℕ} → buffer' ≡ transform buffer → scratch' ≡ cleared 0 n scratch
-      → outcome answer buffer' scratch' ≡ outcomeOf transform n buffer scratch decided
+module _ {A : Type 0} (nought : A) (transform : List A → List A) (n : ℕ) (buffer scratch : List A) {answer decided : Answer} (asked : answer ≡ decided) where
+  pub outcome-of-done : answer ≡ Done → {buffer' scratch' : List A} → buffer' ≡ transform buffer → scratch' ≡ cleared nought n scratch
+      → outcome answer buffer' scratch' ≡ outcomeOf nought transform n buffer scratch decided
   outcome-of-done done stored zeroed =
-      ap₂ (outcome answer) stored zeroed ∙ ap (λ (a : Answer). outcome a (transform buffer) (cleared 0 n scratch)) done
-      ∙ ap (outcomeOf transform n buffer scratch) (sym done ∙ asked)
+      ap₂ (outcome answer) stored zeroed ∙ ap (λ (a : Answer). outcome a (transform buffer) (cleared nought n scratch)) done
+      ∙ ap (outcomeOf nought transform n buffer scratch) (sym done ∙ asked)
 
-  pub outcome-of-refused : (r : Refusal) → answer ≡ No r → outcome answer buffer scratch ≡ outcomeOf transform n buffer scratch decided
+  pub outcome-of-refused : (r : Refusal) → answer ≡ No r → outcome answer buffer scratch ≡ outcomeOf nought transform n buffer scratch decided
   outcome-of-refused r refused =
-      ap (λ (a : Answer). outcome a buffer scratch) refused ∙ ap (outcomeOf transform n buffer scratch) (sym refused ∙ asked)
+      ap (λ (a : Answer). outcome a buffer scratch) refused ∙ ap (outcomeOf nought transform n buffer scratch) (sym refused ∙ asked)
+
+-- the same of a call with two outputs
+module _ {A : Type 0} (nought : A) (firstAfter secondAfter : List A) (needed : ℕ) (first second scratch : List A) {answer decided : Answer} (asked : answer ≡ decided) where
+  pub spread-of-done : answer ≡ Done → {first' second' scratch' : List A} → first' ≡ firstAfter → second' ≡ secondAfter → scratch' ≡ cleared nought needed scratch
+      → spread answer first' second' scratch' ≡ spreadOf nought firstAfter secondAfter needed first second scratch decided
+  spread-of-done done begun ended zeroed =
+      (λ i. spread (done i) (begun i) (ended i) (zeroed i)) ∙ ap (spreadOf nought firstAfter secondAfter needed first second scratch) (sym done ∙ asked)
+
+  pub spread-of-refused : (r : Refusal) → answer ≡ No r
+      → spread answer first second scratch ≡ spreadOf nought firstAfter secondAfter needed first second scratch decided
+  spread-of-refused r refused =
+      ap (λ (a : Answer). spread a first second scratch) refused
+      ∙ ap (spreadOf nought firstAfter secondAfter needed first second scratch) (sym refused ∙ asked)
 
 -- the same of a transform in place
 module _ (least n : ℕ) (transform : List ℕ → List ℕ) (buffer scratch : List ℕ) {answer : Answer} (asked : answer ≡ inPlaceAnswer least n buffer (length scratch)) where
   pub outcome-done : answer ≡ Done → {buffer' scratch' : List ℕ} → buffer' ≡ transform buffer → scratch' ≡ cleared 0 n scratch
       → outcome answer buffer' scratch' ≡ inPlace least transform n buffer scratch
-  outcome-done = outcome-of-done transform n buffer scratch asked
+  outcome-done = outcome-of-done 0 transform n buffer scratch asked
 
   pub outcome-refused : (r : Refusal) → answer ≡ No r → outcome answer buffer scratch ≡ inPlace least transform n buffer scratch
-  outcome-refused = outcome-of-refused transform n buffer scratch asked
+  outcome-refused = outcome-of-refused 0 transform n buffer scratch asked
 
 -- a call whose tests are passed is answered `Done`
 pub accepted-answered : {least n : ℕ} {buffer : List ℕ} {scratchLength : ℕ} → Accepted least n buffer scratchLength

@@ -1,5 +1,5 @@
--- What n entries written over the front of a list leave: they stand there (front-of), and clearing the first n or more takes them away
--- (cleared-again, lent-cleared, lent-cleared-beyond). Over any type of entry. Assumes nothing.
+-- What n entries written over the front of a list leave: they stand there (front-of, copied-front), and clearing the first n or more takes them away
+-- (cleared-again, copied-cleared, lent-cleared, lent-cleared-beyond). Over any type of entry. Assumes nothing.
 use mathlib.Core.List.{List, _++_}
 use mathlib.Core.Path.{_≡_, sym, _∙_, ap}
 use Prim.Native.Nat.{ℕ, _+_, _-_, _≤_}
@@ -7,7 +7,7 @@ use native.Mathlib.Nat as Nat
 use native.Mathlib.Omega.{arith}
 use lib.ListN.{length, take, drop, replicate}
 use lib.Seq.{take-append-seam, drop-append-add, drop-drop}
-use Rattle.ring.specs.Part.{cleared}
+use Rattle.ring.specs.Part.{cleared, copied}
 
 module _ {A : Type 0} (n : ℕ) (front s : List A) (whole : length front ≡ n) where
   pub front-of : take (n - 0) (front ++ drop n s) ≡ front
@@ -34,3 +34,14 @@ module _ {A : Type 0} (n : ℕ) (front s : List A) (whole : length front ≡ n) 
 
   pub lent-cleared : (z : A) → cleared z n (front ++ drop (n - 0) s) ≡ cleared z n s
   lent-cleared = lent-cleared-beyond n (Nat.le-refl n)
+
+  -- the same of a front that was copied there
+  module _ {t : List A} (is : t ≡ copied front s) where
+    copied-is : t ≡ front ++ drop n s
+    copied-is = is ∙ ap (λ (m : ℕ). front ++ drop m s) whole
+
+    pub copied-front : take (n - 0) t ≡ front
+    copied-front = ap (take (n - 0)) copied-is ∙ front-of
+
+    pub copied-cleared : (z : A) → cleared z n t ≡ cleared z n s
+    copied-cleared z = ap (cleared z n) copied-is ∙ cleared-again z

@@ -22,7 +22,7 @@ pub record InTurn (first second both : List ℕ → List ℕ) : Type 0 where
   pub is : (e : ℕ) → e ≤ 10 → (x : List ℕ) → length x ≡ 2 ^ e → second (first x) ≡ both x
 
 -- the answer of an outcome is the one it was made by
-answer-is : (f : List ℕ → List ℕ) (n : ℕ) (b s : List ℕ) (a : Answer) → outcomeOf f n b s a .answer ≡ a
+answer-is : (f : List ℕ → List ℕ) (n : ℕ) (b s : List ℕ) (a : Answer) → outcomeOf 0 f n b s a .answer ≡ a
 answer-is f n b s Done = refl
 answer-is f n b s (No r) = refl
 
@@ -32,20 +32,20 @@ zeros-length n = length-replicate {A = ℕ} n 0
 module _ {first second both : List ℕ → List ℕ} (turns : InTurn first second both) (least n : ℕ) (b s : List ℕ) {r₁ : Answer} {b₁ s₁ : List ℕ}
     (there : outcome r₁ b₁ s₁ ≡ inPlace least first n b s) where
   answered : r₁ ≡ inPlaceAnswer least n b (length s)
-  answered = ap (λ (o : Outcome). o .answer) there ∙ answer-is first n b s (inPlaceAnswer least n b (length s))
+  answered = ap (λ (o : Outcome ℕ). o .answer) there ∙ answer-is first n b s (inPlaceAnswer least n b (length s))
 
   -- a refusal does not depend on the transform
   pub turns-refused : (q : Refusal) → r₁ ≡ No q → outcome r₁ b₁ s₁ ≡ inPlace least both n b s
   turns-refused q refused =
       let asked : inPlaceAnswer least n b (length s) ≡ No q = sym answered ∙ refused in
-      there ∙ ap (outcomeOf first n b s) asked ∙ ap (outcomeOf both n b s) (sym asked)
+      there ∙ ap (outcomeOf 0 first n b s) asked ∙ ap (outcomeOf 0 both n b s) (sym asked)
 
   module _ (done : r₁ ≡ Done) where
     asked : inPlaceAnswer least n b (length s) ≡ Done
     asked = sym answered ∙ done
 
     left : outcome r₁ b₁ s₁ ≡ outcome Done (first b) (cleared 0 n s)
-    left = there ∙ ap (outcomeOf first n b s) asked
+    left = there ∙ ap (outcomeOf 0 first n b s) asked
 
     accepted : Accepted least n b (length s)
     accepted = answered-accepted least n b (length s) asked
@@ -66,8 +66,8 @@ module _ {first second both : List ℕ → List ℕ} (turns : InTurn first secon
         → outcome r₂ b₂ s₂ ≡ inPlace least both n b s
     turns-done back =
         back
-        ∙ ap₂ (inPlace least second n) (ap (λ (o : Outcome). o .buffer) left) (ap (λ (o : Outcome). o .scratch) left)
-        ∙ ap (outcomeOf second n (first b) (cleared 0 n s)) (accepted-answered again)
+        ∙ ap₂ (inPlace least second n) (ap (λ (o : Outcome ℕ). o .buffer) left) (ap (λ (o : Outcome ℕ). o .scratch) left)
+        ∙ ap (outcomeOf 0 second n (first b) (cleared 0 n s)) (accepted-answered again)
         ∙ ap₂ (outcome Done) (turns .is (accepted .exponent) (accepted .small) b (accepted .whole ∙ accepted .power))
         (cleared-again n (replicate n 0) s (zeros-length n) 0)
-        ∙ ap (outcomeOf both n b s) (sym asked)
+        ∙ ap (outcomeOf 0 both n b s) (sym asked)

@@ -5,4 +5,5 @@ pub mod Bad
 pub mod Stores
 pub mod Accepted
 pub mod Front
+pub mod Beside
 pub mod InTurn

@@ -2,7 +2,7 @@
 -- outcome that is promised (mdct-done, mdct-refused, imdct-done, imdct-refused). Assumes nothing.
 use mathlib.Core.Bool.{Bool, true, false}
 use mathlib.Core.List.{List, _++_}
-use mathlib.Core.Path.{_≡_, sym, _∙_, ap}
+use mathlib.Core.Path.{_≡_}
 use Prim.Native.Nat.{ℕ, _*_, _≤_}
 use lib.Dec.{T, eqb, eqb→eq}
 use lib.ListN.{length, take, drop}
@@ -10,7 +10,7 @@ use Rattle.answers.specs.declared.Answer.{Answer}
 use Rattle.answers.specs.declared.Answer.the-variants.{Done, No}
 use Rattle.answers.specs.declared.Refusal.{Refusal}
 use Rattle.lending.specs.Accepted.{Block, MdctAccepted, ImdctAccepted}
-use Rattle.lending.proofs.Accepted.{done-passed, outcome-of-done, outcome-of-refused}
+use Rattle.lending.proofs.Accepted.{done-passed, outcome-of-done, outcome-of-refused, spread-of-done, spread-of-refused}
 use Rattle.lending.proofs.Bad.{sound-residues}
 use Rattle.lending.proofs.Lengths.{fit-lengths}
 use Rattle.sums.proofs.Sizes.{allowed-exponent}
@@ -18,7 +18,7 @@ use Rattle.ring.specs.Finite.{both}
 use Rattle.ring.specs.Part.{cleared}
 use Rattle.ring.proofs.Below.{both-left, both-right}
 use Rattle.sums.specs.Bad.{soundEntries}
-use Rattle.sums.specs.Call.{outcome, spread, spreadOf, blockLengths, mdctAnswer, mdctCall, imdctAnswer, imdctCall}
+use Rattle.sums.specs.Call.{outcome, spread, blockLengths, mdctAnswer, mdctCall, imdctAnswer, imdctCall}
 use Rattle.sums.specs.Lengths.{lengthsFit}
 use Rattle.sums.specs.Residue.{Residues}
 use Rattle.sums.specs.Size.{allowedSize}
@@ -97,19 +97,19 @@ module _ (parts n : ℕ) (first second output w scratch : List ℕ) {answer : An
     (asked : answer ≡ mdctAnswer parts n first second output w (length scratch)) where
   pub mdct-done : answer ≡ Done → {output' scratch' : List ℕ} → output' ≡ mdctSum n w (first ++ second) → scratch' ≡ cleared 0 (parts * n) scratch
       → outcome answer output' scratch' ≡ mdctCall parts n first second output w scratch
-  mdct-done = outcome-of-done (λ overwritten. mdctSum n w (first ++ second)) (parts * n) output scratch asked
+  mdct-done = outcome-of-done 0 (λ overwritten. mdctSum n w (first ++ second)) (parts * n) output scratch asked
 
   pub mdct-refused : (r : Refusal) → answer ≡ No r → outcome answer output scratch ≡ mdctCall parts n first second output w scratch
-  mdct-refused = outcome-of-refused (λ overwritten. mdctSum n w (first ++ second)) (parts * n) output scratch asked
+  mdct-refused = outcome-of-refused 0 (λ overwritten. mdctSum n w (first ++ second)) (parts * n) output scratch asked
 
 module _ (parts n : ℕ) (input first second w scratch : List ℕ) {answer : Answer}
     (asked : answer ≡ imdctAnswer parts n input first second w (length scratch)) where
   pub imdct-done : answer ≡ Done → {first' second' scratch' : List ℕ} → first' ≡ take n (imdctSum n w (first ++ second) input)
       → second' ≡ drop n (imdctSum n w (first ++ second) input) → scratch' ≡ cleared 0 (parts * n) scratch
       → spread answer first' second' scratch' ≡ imdctCall parts n input first second w scratch
-  imdct-done done begun ended zeroed =
-      (λ i. spread (done i) (begun i) (ended i) (zeroed i)) ∙ ap (spreadOf parts n input first second w scratch) (sym done ∙ asked)
+  imdct-done =
+      spread-of-done 0 (take n (imdctSum n w (first ++ second) input)) (drop n (imdctSum n w (first ++ second) input)) (parts * n) first second scratch asked
 
   pub imdct-refused : (r : Refusal) → answer ≡ No r → spread answer first second scratch ≡ imdctCall parts n input first second w scratch
-  imdct-refused r refused =
-      ap (λ (a : Answer). spread a first second scratch) refused ∙ ap (spreadOf parts n input first second w scratch) (sym refused ∙ asked)
+  imdct-refused =
+      spread-of-refused 0 (take n (imdctSum n w (first ++ second) input)) (drop n (imdctSum n w (first ++ second) input)) (parts * n) first second scratch asked

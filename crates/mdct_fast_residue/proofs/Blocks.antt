@@ -1,12 +1,14 @@
 -- What an accepted MDCT or IMDCT of n may do: fold and spread slices of n residues at half the length (half, segment-of), as a DCT-IV is (spread-ready), and transform n
--- residues in place (in-place-of), as the fold is (fold-ready). And that what it then stores are the sums (mdct-is, first-is, second-is). Assumes nothing.
+-- residues in place (in-place-of), as the fold is (fold-ready) and the input once it stands in the output (moved-ready). And that what it then stores are the sums (mdct-is, first-is, second-is). Assumes nothing.
 use mathlib.Core.Path.{_≡_, _∙_, sym, ap, ap₂, subst}
 use mathlib.Core.List.{List, _++_}
-use Prim.Native.Nat.{ℕ, zero, suc, _*_, _/_, _^_, _≤_}
+use Prim.Native.Nat.{ℕ, suc, _*_, _/_, _^_, _≤_}
 use native.Mathlib.Nat as Nat
 use native.Mathlib.Omega.{arith}
 use lib.ListN.{length, take, drop}
 use lib.Pow.{pow-mono}
+use Rattle.ring.specs.Part.{copied}
+use Rattle.ring.proofs.Powers.{halves-whole}
 use Rattle.sums.specs.Residue.{Residues}
 use Rattle.sums.specs.Transform.{dct4Sum, mdctSum, imdctSum}
 use Rattle.sums.proofs.Lengths.{Length, power-length}
@@ -15,6 +17,7 @@ use Rattle.algorithms.specs.Fold.{folded, spreadFirst, spreadSecond}
 use Rattle.algorithms.specs.Residues.{residueOps}
 use Rattle.algorithms.proofs.Fold.{length-folded, folded-residues, mdct-folded, imdct-spread-first, imdct-spread-second}
 use Rattle.lending.specs.Accepted.{Accepted, Block}
+use Rattle.lending.proofs.Beside.{moved}
 use Rattle.fold_residue.specs.Ready.{Segment}
 
 pub record Half (n : ℕ) : Type 0 where
@@ -23,16 +26,11 @@ pub record Half (n : ℕ) : Type 0 where
   pub small : n / 2 ≤ 512
   pub turns : Length (4 * (n / 2))
 
--- a power of two from 2 on is even
-even : (e n : ℕ) → n ≡ 2 ^ e → 2 ≤ n → 2 * (n / 2) ≡ n
-even zero n power enough = absurd (let no : ⊥ = omega (arith, Nat.pow-zero 2) in no)
-even (suc e) n power enough = omega (arith, Nat.pow-suc 2 e)
-
 module _ {parts n k : ℕ} {a b c w : List ℕ} (block : Block parts n a b c w k) where
   pub half : Half n
   half =
       let most : 2 ^ block .exponent ≤ 1024 = pow-mono (block .small) in
-      let whole : 2 * (n / 2) ≡ n = even (block .exponent) n (block .power) (block .enough) in
+      let whole : 2 * (n / 2) ≡ n = halves-whole (block .exponent) n (block .power) (block .enough) in
       let double : 4 * (n / 2) ≡ 2 ^ suc (block .exponent) = omega (arith, whole, block .power, Nat.pow-suc 2 (block .exponent)) in
       record {
         twice = whole;
@@ -95,3 +93,18 @@ module _ {parts n k : ℕ} {a b c w : List ℕ} (block : Block parts n a b c w k
             spread ∙ ap (λ (y : List ℕ). spreadSecond residueOps (n / 2) v y second) transformed
             ∙ imdct-spread-second (n / 2) (half .turns) v first second whole X (X-size ∙ sym (half .twice))
             ∙ ap (λ (m : ℕ). drop m (imdctSum m v (first ++ second) X)) (half .twice)
+
+-- the input is copied over an output of as many entries
+pub moved-ready : {n : ℕ} (input output scratch : List ℕ) → Accepted 2 n input n → length output ≡ n → {x : List ℕ} {k : ℕ} → x ≡ copied input output → n ≤ k
+    → Accepted 2 n x k
+moved-ready input output scratch accepted size {x} is room =
+    let input-is : x ≡ input = moved input output scratch (accepted .whole) size is in
+    record {
+      exponent = accepted .exponent;
+      small = accepted .small;
+      power = accepted .power;
+      enough = accepted .enough;
+      whole = ap length input-is ∙ accepted .whole;
+      room = room;
+      residues = subst Residues (sym input-is) (accepted .residues);
+    }

@@ -10,7 +10,7 @@ use Rattle.sums.specs.Residue.{Residues, powersTable}
 use Rattle.sums.specs.Transform.{entry}
 use Rattle.sums.proofs.Powers.{powers-length, table-powers}
 use Rattle.lending.specs.Accepted.{Block, MdctAccepted, ImdctAccepted}
-use Rattle.naive_residue.specs.Doubled.{Doubled}
+use Rattle.places.specs.Doubled.{Doubled}
 use Rattle.naive_residue.proofs.Parts.{Part, part-lent, part-residues}
 use Rattle.mdct_naive_residue.specs.Ready.{SegmentReady}
 

@@ -4,4 +4,3 @@ pub mod Listed
 pub mod Sums
 pub mod Room
 pub mod Parts
-pub mod Halved

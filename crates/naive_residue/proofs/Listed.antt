@@ -6,7 +6,8 @@ use Prim.Native.Nat.{ℕ, _+_, _*_, _%_, _<_, _≤_}
 use lib.ListN.{length, set}
 use Rattle.ring.specs.Finite.{tab}
 use Rattle.naive_residue.specs.Ready.{SumReady, SumsReady}
-use Rattle.naive_residue.proofs.Places.{place-below, place-first, place-onward}
+use Rattle.places.proofs.Places.{place-first, place-onward}
+use Rattle.naive_residue.proofs.Places.{place-below}
 use Rattle.ring.proofs.Filled.{Filled, filled-none, filled-more, filled-all}
 
 -- the value at k

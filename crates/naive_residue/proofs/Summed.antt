@@ -13,7 +13,8 @@ use Rattle.ring.proofs.Terms.{terms-none}
 use Rattle.sums.proofs.Terms.{sum-onward}
 use Rattle.naive_residue.specs.AngleSums.{angleSum}
 use Rattle.naive_residue.specs.Ready.{SumReady}
-use Rattle.naive_residue.proofs.Places.{place-below, place-first, place-onward}
+use Rattle.places.proofs.Places.{place-first, place-onward}
+use Rattle.naive_residue.proofs.Places.{place-below}
 
 -- the term at i
 abbrev term : List ℕ → List ℕ → ℕ → ℕ → ℕ → ℕ

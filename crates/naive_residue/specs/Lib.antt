@@ -1,4 +1,3 @@
 pub mod AngleSums
 pub mod Ready
 pub mod Added
-pub mod Doubled

@@ -1,21 +1,13 @@
 // Sums of entries times cosines at evenly spaced angles: the inner loops of the naive transforms, written once.
-// An angle is a place in the lent table of powers and stays below its length: where a step leads past the end, one whole turn is taken off.
+// An angle is a place in the lent table of powers and stays below its length.
 ghost use mathlib.Core.Path.{_≡_};
 ghost use Prim.Native.Nat.{_+_, _*_, _%_, _/_, _<_, _≤_};
 ghost use lib.ListN.{length};
 ghost use Rattle.naive_residue.specs.AngleSums.{angleSum, angleSums};
 ghost use Rattle.naive_residue.specs.Ready.{SumReady, SumsReady};
+use places::further;
 use residue::angle::cosine;
 use residue::arithmetic::times_plus;
-
-// Both places are below a turn, so their sum is below two.
-pub fn further(at: usize, more: usize, turn: usize) -> usize
-    requires { ⌜ (at < turn) × ((more < turn) × (turn ≤ 8192)) ⌝ }
-    ensures { λ r. ⌜ r ≡ (at + more) % turn ⌝ }
-{
-    let next = at + more;
-    if next < turn { next } else { next - turn }
-}
 
 // The sine at a place is the cosine three quarters of a turn further on.
 pub fn sine_place(at: usize, turn: usize) -> usize

@@ -2,4 +2,3 @@
 pub mod angle_sums;
 pub mod type2and3_naive;
 pub mod type4_sum;
-pub mod units;

@@ -1,8 +1,11 @@
 pub mod Below
 pub mod Parity
+pub mod Powers
 pub mod Factor
 pub mod Table
 pub mod Filled
+pub mod Parts
+pub mod Halves
 pub mod Ring
 pub mod Solve
 pub mod Terms

@@ -3,28 +3,17 @@
 -- (step-ready). Assumes nothing.
 use mathlib.Core.Path.{_≡_, sym, _∙_}
 use mathlib.Core.List.{List}
-use Prim.Native.Nat.{ℕ, zero, suc, _+_, _*_, _-_, _^_, _/_, _<_, _≤_}
+use Prim.Native.Nat.{ℕ, _+_, _*_, _-_, _/_, _<_, _≤_}
 use native.Mathlib.Nat as Nat
 use native.Mathlib.Omega.{arith}
 use lib.ListN.{length, getD}
 use lib.Pow.{pow-mono, pow-pos}
+use Rattle.ring.proofs.Powers.{quarters-whole, half-power}
 use Rattle.sums.proofs.Cosines.{cosines-bound, cosines-cos, cosines-sin}
 use Rattle.sums.proofs.Lengths.{Length, power-length}
 use Rattle.algorithms.specs.Residues.{residueOps, residueTwiddles}
 use Rattle.algorithms.specs.Split.{twiddleCos, twiddleSin}
 use Rattle.split_residue.specs.Ready.{Levels, InPlace, Step}
-
--- a power of two above 2 has whole quarters
-pub quarters-whole : (e n : ℕ) → n ≡ 2 ^ e → 2 < n → 4 * (n / 4) ≡ n
-quarters-whole zero n power large = absurd (let no : ⊥ = omega (arith, Nat.pow-zero 2) in no)
-quarters-whole (suc zero) n power large = absurd (let no : ⊥ = omega (arith, Nat.pow-suc 2 0, Nat.pow-zero 2) in no)
-quarters-whole (suc (suc e)) n power large = omega (arith, Nat.pow-suc 2 (suc e), Nat.pow-suc 2 e)
-
-half-power : (e n : ℕ) → 1 ≤ n → 2 * n ≡ 2 ^ e → n ≡ 2 ^ (e - 1)
-half-power zero n some power = absurd (let no : ⊥ = omega (arith, Nat.pow-zero 2) in no)
-half-power (suc e) n some power =
-    let less : suc e - 1 ≡ e = omega arith in
-    rw less (omega (arith, Nat.pow-suc 2 e))
 
 module _ {t : List ℕ} where
   pub levels-bound : {n : ℕ} → Levels n t → n ≤ 2048

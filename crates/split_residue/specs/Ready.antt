@@ -1,8 +1,9 @@
--- What the routines of split radix ask of what they are lent, and what a part of a slice leaves in the whole. Assumes nothing.
+-- What the routines of split radix ask of what they are lent. Assumes nothing.
 use mathlib.Core.Path.{_≡_}
-use mathlib.Core.List.{List, _++_}
+use mathlib.Core.List.{List}
 use Prim.Native.Nat.{ℕ, _+_, _*_, _-_, _^_, _≤_}
-use lib.ListN.{length, take, drop}
+use lib.ListN.{length}
+use Rattle.ring.specs.Part.{part}
 use Rattle.sums.specs.Residue.{Residues}
 use Rattle.sums.specs.Cosines.{Cosines}
 
@@ -26,14 +27,6 @@ pub record Step (q : ℕ) (table from to : List ℕ) : Type 0 where
   pub residues : Residues from
   pub from-length : length from ≡ 4 * q
   pub to-length : length to ≡ 4 * q
-
--- the entries from a up to b
-abbrev pub part : ℕ → ℕ → List ℕ → List ℕ
-part a b s = take (b - a) (drop a s)
-
--- s with its entries from a up to b replaced by what f makes of them
-abbrev pub over : (List ℕ → List ℕ) → ℕ → ℕ → List ℕ → List ℕ
-over f a b s = take a s ++ (f (part a b s) ++ drop (b - a) (drop a s))
 
 -- a transform of the entries from a up to b of s, with the front of x as scratch
 pub record PartInPlace (table s : List ℕ) (a b : ℕ) (x : List ℕ) : Type 0 where

@@ -12,3 +12,4 @@ pub mod Shots
 pub mod Curve
 pub mod Figure
 pub mod Example
+pub mod Returned

@@ -1,32 +1,21 @@
--- What an accepted call may do: lend the table of powers to the sums (accepted-ready), or a table of cosines to split radix (accepted-in-place),
--- copy the buffer to scratch and read it there (copied-front), and clear scratch of the copy (copied-cleared). Assumes nothing.
+-- What an accepted call may do: ask for the unit of its length (accepted-doubled), lend the table of powers to the sums (accepted-ready), or a table of cosines to
+-- split radix (accepted-in-place). Assumes nothing.
 use mathlib.Core.Path.{_≡_, refl, sym, _∙_, ap, subst}
-use mathlib.Core.List.{List, _++_}
-use Prim.Native.Nat.{ℕ, _+_, _*_, _-_, _≤_}
+use mathlib.Core.List.{List}
+use Prim.Native.Nat.{ℕ, _+_, _*_, _≤_}
 use native.Mathlib.Omega.{arith}
-use lib.ListN.{length, take, drop}
-use Rattle.ring.specs.Part.{cleared, copied}
+use lib.ListN.{length}
 use Rattle.sums.specs.Cosines.{Cosines}
 use Rattle.sums.specs.Residue.{Residues, powersTable}
 use Rattle.sums.proofs.Powers.{powers-length, table-powers}
 use Rattle.lending.specs.Accepted.{Accepted}
-use Rattle.lending.proofs.Front.{front-of, cleared-again}
 use Rattle.naive_residue.specs.Ready.{Ready}
 use Rattle.split_residue.specs.Ready.{InPlace}
-use Rattle.naive_residue.specs.Doubled.{Doubled}
+use Rattle.places.specs.Doubled.{Doubled}
 
 module _ {least n k : ℕ} {buffer : List ℕ} (a : Accepted least n buffer k) where
   pub accepted-doubled : Doubled n
   accepted-doubled = record { times = a .exponent; small = a .small; power = a .power }
-
-  copied-is : (s : List ℕ) → copied buffer s ≡ buffer ++ drop n s
-  copied-is s = ap (λ (m : ℕ). buffer ++ drop m s) (a .whole)
-
-  pub copied-front : (s t : List ℕ) → t ≡ copied buffer s → take (n - 0) t ≡ buffer
-  copied-front s t is = ap (take (n - 0)) (is ∙ copied-is s) ∙ front-of n buffer s (a .whole)
-
-  pub copied-cleared : (s t : List ℕ) → t ≡ copied buffer s → cleared 0 n t ≡ cleared 0 n s
-  copied-cleared s t is = ap (cleared 0 n) (is ∙ copied-is s) ∙ cleared-again n buffer s (a .whole) 0
 
   pub accepted-ready : (unit : ℕ) (table x out : List ℕ) → unit * n ≡ 1024 → table ≡ powersTable 8192 → x ≡ buffer → length out ≡ length buffer
       → Ready 4 (2 * unit) table x out

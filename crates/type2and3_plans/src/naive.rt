@@ -7,7 +7,7 @@ ghost use Rattle.naive_residue.specs.Ready.{Ready};
 ghost use Rattle.type2and3_plans.specs.Sum.{sumBy};
 use crate::Transform;
 use naive_residue::type2and3_naive;
-use naive_residue::units::unit;
+use places::unit;
 
 // The sum of the transform that is asked for, from one slice into another.
 fn sums(which: Transform, table: &[u32], unit: usize, x: &[u32], out: &mut [u32])

@@ -14,7 +14,7 @@ ghost use Rattle.sums.specs.Window.{symmetricWindow, unitPower, acceptedWindow,
 ghost use Rattle.sums.specs.Call.{windowAnswer, fillAnswer, outcome, filled};
 use answers::Answer;
 use answers::Refusal;
-use naive_residue::units::unit;
+use places::unit;
 use residue::angle::sine;
 use residue::arithmetic::reduce;
 use residue::arithmetic::times;

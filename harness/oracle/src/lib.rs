@@ -1,8 +1,9 @@
 //! The oracle: the Rust of rustdct 0.7.1, unchanged, for every file that Kultygash carries over. The text is included from where
-//! build.rs found it, so none of it stands in this repository. Left out are the planner and the files not carried over.
+//! build.rs found it: the given source, or the copies in harness/rustdct. Left out are the planner and the files not carried over.
 //!
-//! Added, beside the included text: `table`, which shows the private table of a transform, and the functions at the end, which put
-//! transforms together as document 01 says, with the naive sums at lengths 1 and 2 as leaves of split radix.
+//! Added, beside the included text: `table`, which shows the private table of a transform; `tables`, which hands out tables as the port
+//! is lent them; and the functions at the end, which put transforms together as document 01 says, with the naive sums at lengths 1 and 2
+//! as leaves of split radix.
 pub use rustfft;
 pub use rustfft::{num_complex, num_traits, Length};
 
@@ -76,6 +77,8 @@ pub mod mdct {
 
     include!(concat!(env!("OUT_DIR"), "/mdct.rs"));
 }
+
+pub mod tables;
 
 use algorithm::{Type2And3Naive, Type2And3SplitRadix, Type4ConvertToType3Even};
 use mdct::{Mdct, MdctNaive, MdctViaDct4};

@@ -1,11 +1,15 @@
-//! Times the residue routines beside the oracle's. Usage:
+//! Times the library's routines beside the oracle's and FFTW's. Usage:
 //!
-//!     speed                       all routines at N = 16, 64, 256 and 1024: a markdown table of times
+//!     speed                       all routines at N = 16, 64, 256 and 1024: markdown tables of times
 //!     speed calls ROUTINE N K     K calls of one routine, at most 64, for a program that counts instructions
+mod check;
+mod fftw;
 mod interface;
+mod memory;
 mod routine;
+mod transform;
 
-use routine::{names, Routine, ROWS};
+use routine::{names, Routine, Row, ROWS};
 use std::collections::HashMap;
 use std::hint::black_box;
 use std::process::exit;
@@ -32,80 +36,118 @@ fn time(routine: &mut Routine, calls: usize) -> f64 {
     start.elapsed().as_nanos() as f64 / calls as f64
 }
 
-/// Stops unless type 3 undoes type 2 and type 4 itself up to N/2, and the IMDCT the MDCT, for the fast routines, the naive ones and the
-/// oracle's: no wrong routine is timed.
-fn check(len: usize) {
-    for pair in [
-        ["dct2_fast", "dct3_fast"],
-        ["dct2_naive", "dct3_naive"],
-        ["dct2_oracle", "dct3_oracle"],
-        ["dct4_fast", "dct4_fast"],
-        ["dct4_oracle", "dct4_oracle"],
-        ["mdct_fast", "imdct_fast"],
-        ["mdct_naive", "imdct_naive"],
-        ["mdct_oracle", "imdct_oracle"],
-    ] {
-        let [mut forth, mut back] = pair.map(|name| Routine::new(name, len).unwrap());
-        if !forth.undone_by(&mut back) {
-            eprintln!("N = {len}: {} does not undo {}", pair[1], pair[0]);
-            exit(1);
-        }
-    }
-}
-
 fn median(times: &mut [f64]) -> f64 {
     times.sort_by(|x, y| x.total_cmp(y));
     times[times.len() / 2]
 }
 
-/// Every routine at every length in each round, so that what slows the machine for a while slows all of them.
-fn table() {
-    let mut routines = Vec::new();
-    for len in LENGTHS {
-        check(len);
-        for name in names() {
-            let mut routine = Routine::new(name, len).unwrap();
-            time(&mut routine, 2);
-            let calls = (BATCH_NANOSECONDS / time(&mut routine, 3)).max(1.0) as usize;
-            routines.push((len, name, routine, calls, Vec::new()));
-        }
-    }
-    for _ in 0..ROUNDS {
-        for (_, _, routine, calls, times) in &mut routines {
-            // One call that is not timed brings the routine's memory back into the caches.
-            time(routine, 1);
-            times.push(time(routine, *calls));
-        }
-    }
-    let medians: HashMap<(usize, &str), f64> = routines
-        .iter_mut()
-        .map(|(len, name, _, _, times)| ((*len, *name), median(times)))
-        .collect();
+/// The median times of one run, by length and routine.
+struct Times(HashMap<(usize, String), f64>);
 
-    println!("Nanoseconds per call, the median of {ROUNDS} rounds in one run; every round times all routines at all lengths.");
-    println!("Every call works on a buffer refilled with the same input, and the refill is within the timing, for all alike. A");
-    println!("residue call includes its tests for a refusal and zeroes its scratch; the oracle tests lengths alone and leaves its");
-    println!(
-        "scratch as it comes. The oracle is rustdct's split radix on f64 with naive leaves at lengths 1 and 2, with type 4 and the"
-    );
-    println!("MDCT over it. MDCT and IMDCT are under the sine window.");
-    println!();
+impl Times {
+    /// Every routine at every length in each round, so that what slows the machine for a while slows all of them.
+    fn take() -> Times {
+        let mut routines = Vec::new();
+        for len in LENGTHS {
+            check::check(len);
+            for name in names() {
+                let mut routine = Routine::new(&name, len).unwrap();
+                time(&mut routine, 2);
+                let calls = (BATCH_NANOSECONDS / time(&mut routine, 3)).max(1.0) as usize;
+                routines.push((len, name, routine, calls, Vec::new()));
+            }
+        }
+        for _ in 0..ROUNDS {
+            for (_, _, routine, calls, times) in &mut routines {
+                // One call that is not timed brings the routine's memory back into the caches.
+                time(routine, 1);
+                times.push(time(routine, *calls));
+            }
+        }
+        let medians = routines
+            .into_iter()
+            .map(|(len, name, _, _, mut times)| ((len, name), median(&mut times)));
+        Times(medians.collect())
+    }
+
+    fn of(&self, len: usize, row: &Row, whose: &str, way: &str) -> Option<f64> {
+        row.routine(whose, way).map(|name| self.0[&(len, name)])
+    }
+}
+
+fn shown(time: Option<f64>) -> String {
+    time.map_or("–".to_string(), |time| format!("{time:.0}"))
+}
+
+fn ratio(above: Option<f64>, below: Option<f64>, digits: usize) -> String {
+    match (above, below) {
+        (Some(above), Some(below)) => format!("{:.*}", digits, above / below),
+        _ => "–".to_string(),
+    }
+}
+
+fn residue_table(times: &Times) {
     println!("| N | transform | residue fast | residue naive | oracle f64 | fast / oracle | naive / fast |");
     println!("|---:|---|---:|---:|---:|---:|---:|");
     for len in LENGTHS {
-        for row in ROWS {
-            let [fast, oracle] = [row.fast, row.oracle].map(|name| medians[&(len, name)]);
-            let (naive, to_fast) = match row.naive.map(|name| medians[&(len, name)]) {
-                Some(naive) => (format!("{naive:.0}"), format!("{:.1}", naive / fast)),
-                None => ("–".to_string(), "–".to_string()),
-            };
-            let to_oracle = fast / oracle;
+        for row in ROWS.iter().filter(|row| row.residue) {
+            let of = |whose, way| times.of(len, row, whose, way);
+            let (fast, naive, oracle) = (of("residue", "fast"), of("residue", "naive"), of("oracle", "fast"));
             println!(
-                "| {len} | {} | {fast:.0} | {naive} | {oracle:.0} | {to_oracle:.2} | {to_fast} |",
-                row.name
+                "| {len} | {} | {} | {} | {} | {} | {} |",
+                row.name,
+                shown(fast),
+                shown(naive),
+                shown(oracle),
+                ratio(fast, oracle, 2),
+                ratio(naive, fast, 1)
             );
         }
     }
+}
+
+fn float_table(times: &Times) {
+    println!("| N | transform | float fast | oracle fast | fast / oracle | FFTW | fast / FFTW | float naive | oracle naive | naive / oracle |");
+    println!("|---:|---|---:|---:|---:|---:|---:|---:|---:|---:|");
+    for len in LENGTHS {
+        for row in &ROWS {
+            let of = |whose, way| times.of(len, row, whose, way);
+            let (fast, oracle, fftw) = (of("float", "fast"), of("oracle", "fast"), of("fftw", "fast"));
+            let (naive, oracle_naive) = (of("float", "naive"), of("oracle", "naive"));
+            println!(
+                "| {len} | {} | {} | {} | {} | {} | {} | {} | {} | {} |",
+                row.name,
+                shown(fast),
+                shown(oracle),
+                ratio(fast, oracle, 2),
+                shown(fftw),
+                ratio(fast, fftw, 2),
+                shown(naive),
+                shown(oracle_naive),
+                ratio(naive, oracle_naive, 2)
+            );
+        }
+    }
+}
+
+fn tables() {
+    let times = Times::take();
+    println!("Nanoseconds per call, the median of {ROUNDS} rounds in one run; every round times all routines at all lengths.");
+    println!("Every call works on a buffer refilled with the same input, and the refill is within the timing, for all alike. A");
+    println!("residue call and a float call include their tests for a refusal and zero their scratch; the oracle tests lengths alone and");
+    println!("leaves its scratch as it comes. The oracle is rustdct on f64: fast is its split radix with naive leaves at lengths 1 and 2,");
+    println!(
+        "with type 4 and the MDCT over it; naive are its sums. FFTW runs in place, with a plan by FFTW_MEASURE. MDCT and IMDCT are"
+    );
+    println!("under the sine window.");
+    println!();
+    println!("Residues:");
+    println!();
+    residue_table(&times);
+    println!();
+    println!("Floats, whose bits are the oracle's:");
+    println!();
+    float_table(&times);
 }
 
 /// Makes as many routines as there can be calls, whatever `count` is, and runs the first `count` of them once each. So two runs differ
@@ -129,7 +171,7 @@ fn main() {
     let arguments: Vec<String> = std::env::args().skip(1).collect();
     let words: Vec<&str> = arguments.iter().map(String::as_str).collect();
     let done = match words[..] {
-        [] => Some(table()),
+        [] => Some(tables()),
         ["calls", name, len, count] => match (len.parse(), count.parse()) {
             (Ok(len), Ok(count)) if LENGTHS.contains(&len) => calls(name, len, count),
             _ => None,

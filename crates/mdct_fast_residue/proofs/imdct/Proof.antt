@@ -7,8 +7,8 @@ use Prim.Native.Nat.{_*_}
 use Rattle.sums.specs.Residue.{Residues}
 use Rattle.sums.specs.Transform.{dct4Sum}
 use Rattle.sums.proofs.Outputs.{length-dct4}
+use Rattle.lending.proofs.Beside.{Beside, middle-of, beside-cleared}
 use Rattle.mdct_fast_residue.proofs.Blocks.{segment-of, spread-ready, in-place-of, first-is, second-is}
-use Rattle.mdct_fast_residue.proofs.Beside.{Beside, middle-of, beside-cleared}
 use Rattle.mdct_fast_residue.proofs.imdct.Statement.{statement}
 use Rattle.mdct_fast_residue.proofs.imdct.Tie as tie
 
@@ -55,7 +55,7 @@ returns c =
       first-is block window first second (block .b-length) input (block .a-length) (middle-of (beside transformed)) (transformed .transform-beside .ensures .0)
           (spread .spread .ensures .0),
       second-is block window first second (block .b-length) input (block .a-length) (middle-of (beside transformed)) (spread .spread .ensures .1),
-      c .before .before .clear .ensures ∙ beside-cleared (beside transformed),
+      c .before .before .clear .ensures ∙ beside-cleared (beside transformed) 0,
     )
 
 pub imdct-spec : {M : Type 1} → statement M

@@ -26,7 +26,7 @@ returns c =
     let n = start .args .n in
     let w = now (start .args .window) in
     let tests = fill-passed n w (asked .fill-answer .ensures) (told .enum-told .given .1) in
-    outcome-of-done (λ held. flatWindow (exponentOf n)) 0 w [] (asked .fill-answer .ensures) (told .enum-told .given .1)
+    outcome-of-done 0 (λ held. flatWindow (exponentOf n)) 0 w [] (asked .fill-answer .ensures) (told .enum-told .given .1)
     (level .level .ensures ∙ flat-made n (tests .0) w _ (tests .1) (level .before .before .scaled .ensures))
     refl
 
@@ -34,7 +34,7 @@ returns-2 : tie.Need-returns-2
 returns-2 c =
     let asked = c .before .before in
     let start = asked .before .before .before in
-    outcome-of-refused (λ held. flatWindow (exponentOf (start .args .n))) 0 (now (start .args .window)) [] (asked .fill-answer .ensures) _
+    outcome-of-refused 0 (λ held. flatWindow (exponentOf (start .args .n))) 0 (now (start .args .window)) [] (asked .fill-answer .ensures) _
     (c .enum-told2 .given .1)
 
 pub flat-window-spec : {M : Type 1} → statement M

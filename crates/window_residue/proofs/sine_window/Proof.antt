@@ -54,7 +54,7 @@ returns c =
     let asked = told .before .before in
     let start = asked .before .before .before in
     let n = start .args .n in
-    outcome-of-done (λ held. sineWindow (exponentOf n)) 0 (now (start .args .window)) [] (asked .fill-answer .ensures) (told .enum-told .given .1)
+    outcome-of-done 0 (λ held. sineWindow (exponentOf n)) 0 (now (start .args .window)) [] (asked .fill-answer .ensures) (told .enum-told .given .1)
     (arch .arch .ensures ∙ sine-made n (allowed told) _ (arch .before .before .scaled .ensures))
     refl
 
@@ -62,7 +62,7 @@ returns-2 : tie.Need-returns-2
 returns-2 c =
     let asked = c .before .before in
     let start = asked .before .before .before in
-    outcome-of-refused (λ held. sineWindow (exponentOf (start .args .n))) 0 (now (start .args .window)) [] (asked .fill-answer .ensures) _
+    outcome-of-refused 0 (λ held. sineWindow (exponentOf (start .args .n))) 0 (now (start .args .window)) [] (asked .fill-answer .ensures) _
     (c .enum-told2 .given .1)
 
 pub sine-window-spec : {M : Type 1} → statement M

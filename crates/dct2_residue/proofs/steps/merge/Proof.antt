@@ -3,13 +3,14 @@
 use Prim.Native.Nat.{_+_, _-_}
 use native.Mathlib.Omega.{arith}
 use lib.ListN.{length-set}
+use Rattle.algorithms.specs.Residues.{residueOps}
+use Rattle.algorithms.proofs.PartsTwo.{Merging, merging-start, merging-more, merging-end}
 use Rattle.split_residue.proofs.Reduced.{turned-below}
-use Rattle.dct2_residue.proofs.Merging.{Merging, merging-start, merging-more, merging-end}
 use Rattle.dct2_residue.proofs.steps.merge.Statement.{statement}
 use Rattle.dct2_residue.proofs.steps.merge.Tie as tie
 
 abbrev Inv-loop : tie.InvT-loop
-Inv-loop q s x₀ i₀ x i = Merging q s x₀ i x
+Inv-loop q s x₀ i₀ x i = Merging residueOps q s x₀ i x
 
 abbrev μ-loop : tie.MeasureT-loop
 μ-loop q s x₀ i₀ x i = q - i
@@ -23,7 +24,7 @@ slice-write-x-3 c = simp length-set (omega arith)
 loop-holds : tie.Need-loop-holds Inv-loop μ-loop
 loop-holds c =
     let start = c .before .before .before .before .before in
-    merging-start (start .args .q) (start .args .s .now) (start .args .x .now) (start .pre .0) (start .pre .4)
+    merging-start residueOps (start .args .q) (start .args .s .now) (start .args .x .now) (start .pre .0) (start .pre .4)
 
 turned-requires : tie.Need-turned-requires Inv-loop μ-loop
 turned-requires c κs =
@@ -62,7 +63,7 @@ loop-again : tie.Need-loop-again Inv-loop μ-loop
 loop-again c =
     let given = c .before .before .before .before in
     let loop = given .before .before .before .before in
-    merging-more (loop .loop .inv) (given .before .before .before .loop-test .taken) (given .turned .ensures) (c .before .before .before .plus .ensures)
+    merging-more residueOps _ (loop .loop .inv) (given .before .before .before .loop-test .taken) (given .turned .ensures) (c .before .before .before .plus .ensures)
     (c .before .minus .ensures)
 
 negate-requires : tie.Need-negate-requires Inv-loop μ-loop
@@ -76,7 +77,7 @@ same-length c = simp length-set (omega arith)
 returns : tie.Need-returns Inv-loop μ-loop
 returns c =
     let loop = c .before .before .before in
-    merging-end (loop .loop .inv) (c .before .before .loop-test .left) (c .negate .ensures)
+    merging-end residueOps _ (loop .loop .inv) (c .before .before .loop-test .left) (c .negate .ensures)
 
 pub merge-spec : {M : Type 1} → statement M
 merge-spec =

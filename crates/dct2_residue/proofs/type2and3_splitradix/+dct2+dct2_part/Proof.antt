@@ -10,10 +10,13 @@ use denote.Ref.{now}
 use lib.ListN.{length}
 use Rattle.sums.specs.Transform.{dct2Sum}
 use Rattle.sums.proofs.Outputs.{length-dct2}
+use Rattle.algorithms.specs.Residues.{residueOps, residueTwiddles}
+use Rattle.algorithms.proofs.PartsTwo.{inputs-parted}
 use Rattle.split_residue.specs.Ready.{Step}
 use Rattle.split_residue.proofs.Halves.{levels-bound, levels-length, step-ready}
-use Rattle.split_residue.proofs.Parts.{Parts, parts-length, over-first, over-second, over-third, part-ready, leaf-ready, put-back, ready-first, ready-second, ready-third}
-use Rattle.dct2_residue.proofs.Inner.{halves, cosines, sines, inner-inputs, halves-residues, cosines-residues, sines-residues, sums-residues, sums-merged}
+use Rattle.ring.proofs.Parts.{Parts, parts-length, over-first, over-second, over-third, put-back}
+use Rattle.split_residue.proofs.Parts.{part-ready, leaf-ready, ready-first, ready-second, ready-third}
+use Rattle.dct2_residue.proofs.Inner.{halves, cosines, sines, halves-residues, cosines-residues, sines-residues, sums-residues, sums-merged}
 use Rattle.dct2_residue.proofs.type2and3_splitradix.dct2.Reads as dct2
 use Rattle.dct2_residue.proofs.type2and3_splitradix.dct2.Kinds as dct2-kinds
 use Rattle.dct2_residue.proofs.type2and3_splitradix.+dct2+dct2_part.Lts-dct2 as dct2-lts
@@ -85,7 +88,7 @@ module _ (t : ℕ) where
 
   -- what scratch holds after the split, and after each of the three calls
   split-held : (c : dct2-lts.After-split (calls t) (dct2-at t) dct2.Post) → Held (c .before .before .before) as-is as-is as-is (c .split .last .1 .1 .1 .0)
-  split-held c = inner-inputs (q (c .before .before .before)) (x (c .before .before .before)) (c .split .ensures)
+  split-held c = inputs-parted residueOps residueTwiddles (q (c .before .before .before)) (x (c .before .before .before)) (c .split .ensures)
 
   abbrev split-at : dct2-lts.After-dct2-part (calls t) (dct2-at t) dct2.Post → dct2-lts.After-split (calls t) (dct2-at t) dct2.Post
   split-at c = c .before .before .before .before .before

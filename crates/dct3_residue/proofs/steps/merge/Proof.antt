@@ -7,9 +7,9 @@ use lib.ListN.{length, length-set}
 use Rattle.sums.proofs.Angles.{cos-below, sin-below}
 use Rattle.algorithms.specs.Residues.{residueOps, residueTwiddles}
 use Rattle.algorithms.proofs.StepThree.{Joining, joining-none, joining-more, joining-all}
-use Rattle.split_residue.specs.Ready.{part}
+use Rattle.ring.specs.Part.{part}
 use Rattle.split_residue.proofs.Halves.{levels-bound}
-use Rattle.split_residue.proofs.Parts.{part-entry}
+use Rattle.ring.proofs.Parts.{part-entry}
 use Rattle.dct3_residue.proofs.Room.{Room}
 use Rattle.dct3_residue.proofs.steps.merge.Statement.{statement}
 use Rattle.dct3_residue.proofs.steps.merge.Tie as tie
@@ -60,9 +60,9 @@ loop-again c =
     let i = turn .before .loop .i in
     let fits = room turn in
     let made = c .join .ensures in
-    joining-more (turn .before .loop .inv) (fits .turn) (part-entry s 0 (2 * q) i i (omega (arith, fits)) (omega arith))
-    (part-entry s 0 (2 * q) (2 * q - 1 - i) (2 * q - 1 - i) (omega (arith, fits)) (omega arith))
-    (part-entry s (2 * q) (3 * q) i (2 * q + i) (omega (arith, fits)) refl) (part-entry s (3 * q) (4 * q) i (3 * q + i) (omega (arith, fits)) refl)
+    joining-more (turn .before .loop .inv) (fits .turn) (part-entry 0 s 0 (2 * q) i i (omega (arith, fits)) (omega arith))
+    (part-entry 0 s 0 (2 * q) (2 * q - 1 - i) (2 * q - 1 - i) (omega (arith, fits)) (omega arith))
+    (part-entry 0 s (2 * q) (3 * q) i (2 * q + i) (omega (arith, fits)) refl) (part-entry 0 s (3 * q) (4 * q) i (3 * q + i) (omega (arith, fits)) refl)
     (given .twiddle-at .ensures .0) (given .twiddle-at .ensures .1) (made .0) (made .1) (made .2) (made .3)
 
 returns : tie.Need-returns Inv-loop μ-loop

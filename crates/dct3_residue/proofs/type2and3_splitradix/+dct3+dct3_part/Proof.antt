@@ -12,7 +12,8 @@ use Rattle.sums.specs.Transform.{dct3Sum}
 use Rattle.sums.proofs.Outputs.{length-dct3}
 use Rattle.split_residue.specs.Ready.{Step}
 use Rattle.split_residue.proofs.Halves.{levels-bound, levels-length, step-ready}
-use Rattle.split_residue.proofs.Parts.{Parts, parts-length, over-first, over-second, over-third, part-ready, leaf-ready, put-back, ready-first, ready-second, ready-third}
+use Rattle.ring.proofs.Parts.{Parts, parts-length, over-first, over-second, over-third, put-back}
+use Rattle.split_residue.proofs.Parts.{part-ready, leaf-ready, ready-first, ready-second, ready-third}
 use Rattle.dct3_residue.proofs.Inner.{evens, one, three, inner-inputs, evens-residues, one-residues, three-residues, sums-residues, sums-merged}
 use Rattle.dct3_residue.proofs.type2and3_splitradix.dct3.Reads as dct3
 use Rattle.dct3_residue.proofs.type2and3_splitradix.dct3.Kinds as dct3-kinds

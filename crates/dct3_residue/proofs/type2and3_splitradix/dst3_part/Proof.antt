@@ -1,7 +1,8 @@
 -- `dct3_residue::type2and3_splitradix::dst3_part` meets its contract: the part that was lent stands in the whole again. Assumes nothing.
 use native.Mathlib.Omega.{arith}
 use Rattle.sums.specs.Transform.{dst3Sum}
-use Rattle.split_residue.proofs.Parts.{part-ready, put-back}
+use Rattle.ring.proofs.Parts.{put-back}
+use Rattle.split_residue.proofs.Parts.{part-ready}
 use Rattle.dct3_residue.proofs.type2and3_splitradix.dst3_part.Statement.{statement}
 use Rattle.dct3_residue.proofs.type2and3_splitradix.dst3_part.Tie as tie
 

@@ -8,9 +8,9 @@ use Rattle.sums.specs.Residue.{p}
 use Rattle.sums.proofs.Angles.{cos-below, sin-below}
 use Rattle.algorithms.specs.Residues.{residueOps, residueTwiddles}
 use Rattle.algorithms.proofs.StoresFour.{Merging, restDst4, merging-none, merging-more, dst4-merging}
-use Rattle.split_residue.specs.Ready.{part}
+use Rattle.ring.specs.Part.{part}
 use Rattle.split_residue.proofs.Halves.{levels-bound}
-use Rattle.split_residue.proofs.Parts.{part-entry}
+use Rattle.ring.proofs.Parts.{part-entry}
 use Rattle.dct3_residue.proofs.Room.{Room}
 use Rattle.dct4_residue.proofs.steps.merge_dst4.Statement.{statement}
 use Rattle.dct4_residue.proofs.steps.merge_dst4.Tie as tie
@@ -54,7 +54,7 @@ loop-again c =
     let k = turn .before .loop .k in
     let fits = room turn in
     merging-more residueOps residueTwiddles (restDst4 residueOps) m (part 0 m s) (part m (2 * m) s) (turn .before .loop .inv) (fits .turn)
-    (part-entry s 0 m k k (omega (arith, fits)) (omega arith)) (part-entry s m (2 * m) k (m + k) (omega (arith, fits)) refl)
+    (part-entry 0 s 0 m k k (omega (arith, fits)) (omega arith)) (part-entry 0 s m (2 * m) k (m + k) (omega (arith, fits)) refl)
     (given .twiddle-at .ensures .0) (given .twiddle-at .ensures .1) (c .rotate .ensures .0) (c .rotate .ensures .1)
 
 returns : tie.Need-returns Inv-loop μ-loop

@@ -5,11 +5,12 @@ use mathlib.Core.List.{List}
 use Prim.Native.Nat.{ℕ, _/_}
 use native.Mathlib.Omega.{arith}
 use lib.ListN.{length}
+use Rattle.ring.proofs.Halves.{Halves, over-left, over-right}
 use Rattle.sums.specs.Transform.{dct3Sum, dst3Sum}
 use Rattle.sums.proofs.Outputs.{length-dct3, length-dst3, dct3-residues, dst3-residues}
 use Rattle.algorithms.specs.Four.{leftDct4, rightDct4}
 use Rattle.algorithms.specs.Residues.{residueOps}
-use Rattle.dct4_residue.proofs.Halves.{Halves, over-left, over-right, ready-left, ready-right}
+use Rattle.dct4_residue.proofs.Halves.{ready-left, ready-right}
 use Rattle.dct4_residue.proofs.Inner.{ready-even, ready-some, ready-levels, split-ready, merge-ready, dct4-inputs, left-dct4-residues, right-dct4-residues, dct4-is}
 use Rattle.dct4_residue.proofs.type4_convert_to_type3.dct4.Statement.{statement}
 use Rattle.dct4_residue.proofs.type4_convert_to_type3.dct4.Tie as tie

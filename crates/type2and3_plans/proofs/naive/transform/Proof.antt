@@ -2,8 +2,10 @@
 use mathlib.Core.Path.{_∙_, ap}
 use native.Mathlib.Nat as Nat
 use native.Mathlib.Omega.{arith}
+use denote.Ref.{now}
 use Rattle.ring.proofs.Factor.{factor-bound}
-use Rattle.type2and3_plans.proofs.Accepted.{accepted-doubled, accepted-ready, copied-front, copied-cleared}
+use Rattle.lending.proofs.Front.{copied-front, copied-cleared}
+use Rattle.type2and3_plans.proofs.Accepted.{accepted-doubled, accepted-ready}
 use Rattle.type2and3_plans.specs.Sum.{sumBy}
 use Rattle.type2and3_plans.proofs.naive.transform.Statement.{statement}
 use Rattle.type2and3_plans.proofs.naive.transform.Tie as tie
@@ -16,7 +18,7 @@ sums-requires c κs =
     let copy = c .before .before .before .before .before .before .before .before in
     let start = copy .before .before .before .before .before in
     accepted-ready (start .pre) _ _ _ _ (c .before .before .before .unit .ensures) (c .before .before .before .before .before .powers .ensures)
-    (copied-front (start .pre) _ _ (copy .copy .ensures))
+    (copied-front (start .args .n) (now (start .args .buffer)) (now (start .args .scratch)) (start .pre .whole) (copy .copy .ensures))
     (omega arith)
 
 returns : tie.Need-returns
@@ -24,8 +26,8 @@ returns c =
     let sums = c .before .before .before .before .before .before in
     let copy = sums .before .before .before .before .before .before .before .before .before in
     let start = copy .before .before .before .before .before in (
-      sums .sums .ensures ∙ ap (sumBy (start .args .which)) (copied-front (start .pre) _ _ (copy .copy .ensures)),
-      c .before .before .clear .ensures ∙ copied-cleared (start .pre) _ _ (copy .copy .ensures),
+      sums .sums .ensures ∙ ap (sumBy (start .args .which)) (copied-front (start .args .n) (now (start .args .buffer)) (now (start .args .scratch)) (start .pre .whole) (copy .copy .ensures)),
+      c .before .before .clear .ensures ∙ copied-cleared (start .args .n) (now (start .args .buffer)) (now (start .args .scratch)) (start .pre .whole) (copy .copy .ensures) 0,
     )
 
 pub transform-spec : {M : Type 1} → statement M

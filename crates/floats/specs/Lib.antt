@@ -1,0 +1,4 @@
+pub mod Arithmetic
+pub mod Call
+pub mod Accepted
+pub mod Ready

@@ -1,0 +1,2 @@
+pub mod AngleSums
+pub mod Ready

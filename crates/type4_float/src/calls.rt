@@ -1,0 +1,86 @@
+// The two calls. Each promises, for every input, its answer and what both lent slices then hold, by one definition: `fastCall` of its routine.
+ghost use mathlib.Core.Path.{_≡_};
+ghost use lib.ListN.{length};
+ghost use Rattle.ring.specs.Part.{cleared};
+ghost use Rattle.sums.specs.Call.{outcome};
+ghost use Rattle.algorithms.specs.Fast.{dct4Fast, dst4Fast};
+ghost use Rattle.floats.specs.Arithmetic.{floatZero, floatOps, tableTwiddles};
+ghost use Rattle.floats.specs.Accepted.{FastAccepted};
+ghost use Rattle.floats.specs.Call.{fastCall};
+use answers::Answer;
+use dct4_float::type4_convert_to_type3;
+use lending_float::clear;
+use lending_float::fast_answer;
+use places::unit;
+
+// An accepted DCT-IV: the transform with the scratch that it needs, which is then cleared.
+fn dct4(n: usize, cosines: &[f64], sines: &[f64], buffer: &mut [f64], scratch: &mut [f64])
+    requires { ⌜ FastAccepted 2 n (length (now cosines)) (length (now sines)) (length (now buffer)) (length (now scratch)) ⌝ }
+    ensures { λ r. ⌜
+        (now (buffer .exit) ≡ dct4Fast floatOps (tableTwiddles (now (cosines .entry)) (now (sines .entry))) (now (buffer .entry)))
+        × (now (scratch .exit) ≡ cleared floatZero n (now (scratch .entry)))
+        ⌝ }
+{
+    type4_convert_to_type3::dct4(cosines, sines, unit(n), buffer, &mut scratch[0..n]);
+    clear(scratch, n);
+}
+
+// An accepted DST-IV: the transform with the scratch that it needs, which is then cleared.
+fn dst4(n: usize, cosines: &[f64], sines: &[f64], buffer: &mut [f64], scratch: &mut [f64])
+    requires { ⌜ FastAccepted 2 n (length (now cosines)) (length (now sines)) (length (now buffer)) (length (now scratch)) ⌝ }
+    ensures { λ r. ⌜
+        (now (buffer .exit) ≡ dst4Fast floatOps (tableTwiddles (now (cosines .entry)) (now (sines .entry))) (now (buffer .entry)))
+        × (now (scratch .exit) ≡ cleared floatZero n (now (scratch .entry)))
+        ⌝ }
+{
+    type4_convert_to_type3::dst4(cosines, sines, unit(n), buffer, &mut scratch[0..n]);
+    clear(scratch, n);
+}
+
+// DCT-IV by a DCT-III and a DST-III of half the length.
+pub fn dct4_fast(
+    n: usize,
+    cosines: &[f64],
+    sines: &[f64],
+    buffer: &mut [f64],
+    scratch: &mut [f64],
+) -> Answer
+    ensures { λ r. ⌜ outcome r (now (buffer .exit)) (now (scratch .exit)) ≡ fastCall 2 (dct4Fast floatOps) n (now (cosines .entry)) (now (sines .entry)) (now (buffer .entry)) (now (scratch .entry)) ⌝ }
+{
+    let answer = fast_answer(
+        2,
+        n,
+        cosines.len(),
+        sines.len(),
+        buffer.len(),
+        scratch.len(),
+    );
+    if let Answer::Done = answer {
+        dct4(n, cosines, sines, buffer, scratch);
+    }
+    answer
+}
+
+// DST-IV by the same two.
+pub fn dst4_fast(
+    n: usize,
+    cosines: &[f64],
+    sines: &[f64],
+    buffer: &mut [f64],
+    scratch: &mut [f64],
+) -> Answer
+    ensures { λ r. ⌜ outcome r (now (buffer .exit)) (now (scratch .exit)) ≡ fastCall 2 (dst4Fast floatOps) n (now (cosines .entry)) (now (sines .entry)) (now (buffer .entry)) (now (scratch .entry)) ⌝ }
+{
+    let answer = fast_answer(
+        2,
+        n,
+        cosines.len(),
+        sines.len(),
+        buffer.len(),
+        scratch.len(),
+    );
+    if let Answer::Done = answer {
+        dst4(n, cosines, sines, buffer, scratch);
+    }
+    answer
+}
