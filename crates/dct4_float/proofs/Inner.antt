@@ -4,7 +4,6 @@
 use mathlib.Core.Path.{_≡_, sym, _∙_, ap₂}
 use mathlib.Core.List.{List, _++_}
 use Prim.Native.Nat.{ℕ, _*_, _-_, _/_, _^_, _≤_}
-use native.Mathlib.Nat as Nat
 use native.Mathlib.Omega.{arith}
 use lib.Ieee.{Float}
 use lib.ListN.{length}
@@ -48,12 +47,6 @@ module _ {unit : ℕ} {cosines sines x s : List Float} (asked : InPlace 8 unit c
     from-length = sym whole;
     to-length = asked .0 .as-long ∙ sym whole;
   }
-
-  -- four times the unit is no more than four tables have entries
-  pub unit-bound : unit ≤ 8192
-  unit-bound =
-      let most : unit ≤ unit * (8 * length x) = Nat.le-mul-of-pos-right unit (omega (arith, asked .1)) in
-      omega (arith, most, asked .0 .levels .whole, asked .0 .levels .turn)
 
   -- with y, which is as long as x, as the inner scratch and as what the merge fills
   module _ {a b l y : List Float} (halves : Halves m a b l) (same : length y ≡ length x) where

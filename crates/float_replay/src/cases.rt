@@ -1,5 +1,6 @@
-// The cases of a recorded file, one after the other. Its first words are the entries of the cosine table and then of the sine table, of each every eighth. A case is the
-// routine's number, the length n, and as many words more as `words_of` says. After the last case stands a word whose bits are all set, and then nothing.
+// The cases of a recorded file, one after the other. Its first words are the entries of the cosine table and then of the sine table, of each every eighth: enough for types
+// 2 and 3 up to 256 entries, and for type 4 and the fast MDCT up to 128. A case is the routine's number, the length n, and as many words more as `words_of` says. After the
+// last case stands a word whose bits are all set, and then nothing.
 ghost use mathlib.Core.Path.{_≡_};
 ghost use Prim.Native.Nat.{_+_, _*_, _/_, _≤_};
 ghost use lib.ListN.{length};

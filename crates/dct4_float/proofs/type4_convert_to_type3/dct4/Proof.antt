@@ -11,7 +11,8 @@ use Rattle.algorithms.specs.Fast.{dct3Fast, dst3Fast}
 use Rattle.algorithms.specs.Four.{leftDct4, rightDct4}
 use Rattle.algorithms.specs.Ops.{Twiddles}
 use Rattle.floats.specs.Arithmetic.{floatOps, tableTwiddles}
-use Rattle.dct4_float.proofs.Inner.{dct4-inputs, split-ready, unit-bound, left-ready, right-ready, merge-ready, dct3-as-many, dst3-as-many, dct4-is}
+use Rattle.floats.proofs.Levels.{levels-unit}
+use Rattle.dct4_float.proofs.Inner.{dct4-inputs, split-ready, left-ready, right-ready, merge-ready, dct3-as-many, dst3-as-many, dct4-is}
 use Rattle.dct4_float.proofs.type4_convert_to_type3.dct4.Statement.{statement}
 use Rattle.dct4_float.proofs.type4_convert_to_type3.dct4.Tie as tie
 
@@ -91,9 +92,9 @@ dct4-spec =
     tie.close
     (tie.spec
     (λ c κs. split-ready (c .before .before .before .before .before .before .pre))
-    (λ c. omega (arith, unit-bound (split-start (c .before .before) .pre)))
+    (λ c. omega (arith, levels-unit (split-start (c .before .before) .pre .0 .levels)))
     dct3-part-requires
-    (λ c. omega (arith, unit-bound (left-start (c .before .before .before .before) .pre)))
+    (λ c. omega (arith, levels-unit (left-start (c .before .before .before .before) .pre .0 .levels)))
     (λ c. omega arith)
     dst3-part-requires
     merge-dct4-requires
