@@ -1,7 +1,7 @@
 -- The fast routines by length: a leaf is the naive sum (dct2-leaf, dst2-leaf, dct3-leaf, dst3-leaf), four entries and more take a step (dct2-step, dct3-step) or turn into the
 -- cosine transform (dst2-turned, dst3-turned), type 4 is merged from two of half the length (dct4-merged, dst4-merged), and each leaves as many entries (dct2-length and the
 -- others). Over any arithmetic. Assumes nothing.
-use mathlib.Core.Path.{_≡_, refl, sym, _∙_, ap, ap₂}
+use mathlib.Core.Path.{_≡_, refl, sym, _∙_, ap}
 use mathlib.Core.List.{List}
 use Prim.Native.Nat.{ℕ, zero, suc, _*_, _-_, _^_, _≤_}
 use native.Mathlib.Nat as Nat
@@ -176,7 +176,3 @@ module _ {A : Type 0} (O : Ops A) (W : Twiddles A) (x : List A) where
     pub dct4-length : length (dct4Fast O W x) ≡ length x
     unfolding mergeDct4
     dct4-length = ap length dct4-merged ∙ length-there-back m _ _ ∙ sym size
-
-    pub dst4-length : length (dst4Fast O W x) ≡ length x
-    unfolding mergeDst4
-    dst4-length = ap length dst4-merged ∙ length-there-back m _ _ ∙ sym size

@@ -49,14 +49,6 @@ module _ {A : Type 0} (O : Ops A) (g : ℕ) (w : List A) where
       getD-after (tab g (lowFold O g w second)) (tab g (highFold O g w first)) g t d (length-tab g (lowFold O g w second))
       ∙ getD-tab g (highFold O g w first) t d l
 
-  pub length-spread-first : (d held : List A) → length (spreadFirst O g w d held) ≡ 2 * g
-  unfolding spreadFirst
-  length-spread-first d held = length-tab (2 * g) _
-
-  pub length-spread-second : (d held : List A) → length (spreadSecond O g w d held) ≡ 2 * g
-  unfolding spreadSecond
-  length-spread-second d held = length-tab (2 * g) _
-
 -- over residues, the fold is of residues
 pub folded-residues : (g : ℕ) (w first second : List ℕ) → Residues (folded residueOps g w first second)
 folded-residues g w first second = record {

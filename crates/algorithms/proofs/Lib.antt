@@ -13,6 +13,8 @@ pub mod Naive
 pub mod Split
 pub mod Four
 pub mod Fold
+pub mod FastSums
+pub mod Block
 pub mod Turned
 pub mod Stores
 pub mod StepTwo

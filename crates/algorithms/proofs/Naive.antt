@@ -36,7 +36,7 @@ reduced-once h (suc n) f term is =
     ∙ ap (λ (a : ℕ). a % p) (Nat.add-assoc h (sum n f) (f n) ∙ ap (λ (a : ℕ). h + a) (sym (terms-suc _+_ 0 n f)))
 
 -- from nothing
-reduced-sum : (n : ℕ) (f term : ℕ → ℕ) → ((i : ℕ) → i < n → term i ≡ f i % p) → sumOf (residueOps .add) 0 n term ≡ sum n f % p
+pub reduced-sum : (n : ℕ) (f term : ℕ → ℕ) → ((i : ℕ) → i < n → term i ≡ f i % p) → sumOf (residueOps .add) 0 n term ≡ sum n f % p
 reduced-sum n f term is = reduced-once 0 n f term is ∙ ap (λ (a : ℕ). a % p) (Nat.zero-add (sum n f))
 
 module _ (x : List ℕ) (L : Length (length x)) where

@@ -1,5 +1,6 @@
 -- mdct_naive.rs: MDCT and IMDCT of N by their sums, term by term in the Rust's order, N even. The table t holds 4N cosines, entry i at (2i + 1)/(8N) of a turn, and the
--- window w has 2N entries. The Rust walks its table by an index that loses the table's length where it passes the end. Assumes nothing.
+-- window w has 2N entries. The Rust walks its table by an index that loses the table's length where it passes the end. Over residues these are document 01's sums, as
+-- `algorithms.proofs.Block` shows. Assumes nothing.
 use mathlib.Core.List.{List, _++_}
 use Prim.Native.Nat.{ℕ, _+_, _*_, _-_, _%_, _/_}
 use lib.Dec.{ltb}

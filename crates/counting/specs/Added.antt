@@ -1,6 +1,6 @@
 -- Counts that are empty, and counts added up: a sum that would pass the largest number stays there. Assumes nothing.
 use mathlib.Core.Path.{_≡_}
-use Prim.Native.Nat.{ℕ, _+_, min}
+use Prim.Native.Nat.{_+_, min}
 use Rattle.counting.specs.declared.count.Count.{Count}
 
 pub record Empty (r : Count) : Type 0 where

@@ -29,13 +29,15 @@ fn put(place: usize, value: u32, out: &mut [u32])
     }
 }
 
-// Residues as if by chance, with 0 in the middle and then `value` at one place.
+// Residues as if by chance. Where `place` is one of theirs, 0 stands in the middle and then `value` there.
 pub fn fill_with(start: u64, place: usize, value: u32, out: &mut [u32])
     ensures { λ _. ⌜ (value < p → Residues (now (out .exit))) ⌝ }
 {
     fill(start, out);
-    put(out.len() / 2, 0, out);
-    put(place, value, out);
+    if place < out.len() {
+        put(out.len() / 2, 0, out);
+        put(place, value, out);
+    }
 }
 
 // The same entries in two slices.

@@ -1,7 +1,5 @@
-// Recorded answers of the Rust's float routines, replayed: words of a file (`words`), comparisons (`compare`), the calls on a recorded case (`in_place`, `block`), and the cases
-// of a file one after the other (`cases`).
+// Recorded answers of the Rust's float routines, replayed: the calls of MDCT and IMDCT on a case (`mdct`, `imdct`, and `block` for either), and all cases of a file (`cases`).
 pub mod block;
 pub mod cases;
-pub mod compare;
-pub mod in_place;
-pub mod words;
+pub mod imdct;
+pub mod mdct;

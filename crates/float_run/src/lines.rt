@@ -3,6 +3,7 @@ use counting::count;
 use counting::count::Count;
 use counting::count::Tally;
 use float_replay::cases;
+use float_words::file;
 
 fn name(routine: usize) {
     match routine {
@@ -62,7 +63,7 @@ fn routines(bytes: &[u8], cosines: &[f64], sines: &[f64]) {
 }
 
 fn tabled(bytes: &[u8], cosines: &mut [f64; 8192], sines: &mut [f64; 8192]) {
-    cases::load_tables(bytes, cosines, sines);
+    file::load_tables(bytes, cosines, sines);
     routines(bytes, cosines, sines);
 }
 
@@ -70,7 +71,7 @@ pub fn replay(bytes: &[u8]) {
     let mut cosines = [0.0; 8192];
     let mut sines = [0.0; 8192];
     tabled(bytes, &mut cosines, &mut sines);
-    if !cases::whole(bytes) {
+    if !file::whole(bytes) {
         print::text(b"malformed\n");
     }
 }

@@ -1,4 +1,4 @@
--- A part of a slice can be transformed in place (part-ready, leaf-ready), and so can each of three parts of 2q, q and q entries which follow each other (ready-first,
+-- A part of a slice can be transformed in place (part-ready, leaf-short), and so can each of three parts of 2q, q and q entries which follow each other (ready-first,
 -- ready-second, ready-third). Assumes nothing.
 use mathlib.Core.Path.{_≡_, sym, _∙_}
 use mathlib.Core.List.{List}

@@ -1,6 +1,6 @@
--- Laws of the tests that a call makes before it stores anything. A test that was passed holds (passed). Where the second test of
--- `both` is known, it is the first or false (both-second, both-no-second). `oneOf` holds of the numbers that a `match` lists, as the
--- check says it (one-of-keys, keys-one-of).
+-- Laws of the tests that a call makes before it stores anything. A test that was passed holds (passed), and of four in a row each does
+-- (all-four). Where the second test of `both` is known, it is the first or false (both-second, both-no-second). `oneOf` holds of the
+-- numbers that a `match` lists, as the check says it (one-of-keys, keys-one-of).
 -- A call that asks its first tests of another call goes on to the rest only where those are passed (past-lengths, past-residues), and
 -- else gives the same refusal (lengths-refused, residues-refused). Assumes nothing.
 use mathlib.Core.Bool.{Bool, true, false, not}
@@ -16,13 +16,19 @@ use Rattle.answers.specs.declared.Answer.{Answer}
 use Rattle.answers.specs.declared.Answer.the-variants.{Done, No}
 use Rattle.answers.specs.declared.Refusal.{Refusal}
 use Rattle.ring.specs.Finite.{both}
-use Rattle.ring.proofs.Below.{eq→eqb}
+use Rattle.ring.proofs.Below.{both-left, both-right, eq→eqb}
 use Rattle.sums.specs.Size.{oneOf}
 use Rattle.sums.proofs.Sizes.{or-cases, or-first, or-second}
 
 -- a call answered r, which by its contract is the test's value, and the caller went on past its `if !r`
 pub passed : {r test : Bool} → r ≡ test → not r ≡ false → T test
 passed {r} is left = subst T is (subst⁻¹ T (not-false r left) tt)
+
+pub all-four : (w x y z : Bool) → T (both w (both x (both y z))) → T w × T x × T y × T z
+all-four w x y z t =
+    let rest = both-right w (both x (both y z)) t in
+    let last = both-right x (both y z) rest in
+    (both-left w (both x (both y z)) t, both-left x (both y z) rest, both-left y z last, both-right y z last)
 
 pub both-second : (a b : Bool) → T b → a ≡ both a b
 both-second a false t = absurd t

@@ -8,7 +8,7 @@ ghost use Rattle.answers.specs.Refuse.{transformAnswer};
 ghost use Rattle.sums.specs.Size.{allowedSize};
 ghost use Rattle.sums.specs.Lengths.{lengthsFit};
 ghost use Rattle.sums.specs.Bad.{firstBad, soundEntries};
-ghost use Rattle.sums.specs.Call.{inPlaceAnswer};
+ghost use Rattle.sums.specs.Call.{inPlaceAnswer, blockFits};
 ghost use Rattle.ring.specs.Part.{cleared, copied};
 use answers::Answer;
 use answers::Refusal;
@@ -31,6 +31,31 @@ pub fn lengths_fit(buffer: usize, wanted: usize, scratch: usize, needed: usize) 
     ensures { λ r. ⌜ r ≡ lengthsFit buffer wanted scratch needed ⌝ }
 {
     buffer == wanted && needed <= scratch
+}
+
+// The lengths of an MDCT or IMDCT: three slices of n entries, a window of 2n, and scratch for `parts` times n.
+pub fn block_fits(
+    parts: usize,
+    n: usize,
+    a: usize,
+    b: usize,
+    c: usize,
+    window: usize,
+    scratch: usize,
+) -> bool
+    requires { ⌜ (parts ≤ 2) × (n ≤ 1024) ⌝ }
+    ensures { λ r. ⌜ r ≡ blockFits parts n a b c window scratch ⌝ }
+{
+    if a != n {
+        return false;
+    }
+    if b != n {
+        return false;
+    }
+    if c != n {
+        return false;
+    }
+    lengths_fit(window, 2 * n, scratch, parts * n)
 }
 
 // The place of the first entry that is no residue, or the length where there is none.

@@ -12,7 +12,7 @@ use Rattle.sums.specs.Lengths.{lengthsFit}
 use Rattle.sums.specs.Size.{allowedSize}
 use Rattle.sums.proofs.Sizes.{allowed-exponent}
 use Rattle.lending.proofs.Accepted.{done-passed}
-use Rattle.lending.proofs.Lengths.{fit-lengths}
+use Rattle.lending.proofs.Lengths.{fit-lengths, fit-block}
 use Rattle.floats.specs.Accepted.{Size, NaiveAccepted, FastAccepted, Block, NaiveBlock, FastBlock}
 use Rattle.floats.specs.Call.{naiveSize, evenSize, tabledFits, naiveBlockFits, fastBlockFits, naiveAnswer, fastAnswer, naiveBlockAnswer, fastBlockAnswer}
 
@@ -62,21 +62,10 @@ fast-accepted least n cosines sines buffer scratch done =
     let fit = tabled 8192 n cosines sines buffer scratch (tests .1) in
     record { size = allowed least n (tests .0); cosines-length = fit .0; sines-length = fit .1; whole = fit .2; room = fit .3 }
 
-module _ (parts n a b c w scratch : ℕ) where
-  block : T (blockFits parts n a b c w scratch) → Block parts n a b c w scratch
-  block t =
-      let fits = lengthsFit w (2 * n) scratch (parts * n) in
-      let tests = both-parts (eqb a n) (both (eqb b n) (both (eqb c n) fits)) t in
-      let rest = both-parts (eqb b n) (both (eqb c n) fits) (tests .1) in
-      let last = both-parts (eqb c n) fits (rest .1) in
-      let fit = fit-lengths w (2 * n) scratch (parts * n) (last .1) in
-      record {
-        a-length = eqb→eq a n (tests .0);
-        b-length = eqb→eq b n (rest .0);
-        c-length = eqb→eq c n (last .0);
-        window-length = fit .0;
-        room = fit .1;
-      }
+block : (parts n a b c w scratch : ℕ) → T (blockFits parts n a b c w scratch) → Block parts n a b c w scratch
+block parts n a b c w scratch t =
+    let fit = fit-block parts n a b c w scratch t in
+    record { a-length = fit .0; b-length = fit .1; c-length = fit .2; window-length = fit .3; room = fit .4 }
 
 pub naive-block : (n table a b c w scratch : ℕ) → naiveBlockAnswer n table a b c w scratch ≡ Done → NaiveBlock n table a b c w scratch
 unfolding naiveBlockFits

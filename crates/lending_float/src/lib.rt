@@ -4,7 +4,6 @@ ghost use mathlib.Core.Path.{_≡_};
 ghost use Prim.Native.Nat.{_≤_};
 ghost use lib.ListN.{length};
 ghost use Rattle.ring.specs.Part.{cleared, copied};
-ghost use Rattle.sums.specs.Call.{blockFits};
 ghost use Rattle.floats.specs.Arithmetic.{floatZero};
 ghost use Rattle.floats.specs.Call.{naiveSize, evenSize, tabledFits, naiveAnswer, fastAnswer, naiveBlockAnswer, fastBlockAnswer};
 use answers::Answer;
@@ -46,31 +45,6 @@ fn tabled_fits(
         return false;
     }
     lending::lengths_fit(buffer, n, scratch, n)
-}
-
-// Three slices of n entries, a window of 2n, and scratch for `parts` times n.
-fn block_fits(
-    parts: usize,
-    n: usize,
-    a: usize,
-    b: usize,
-    c: usize,
-    window: usize,
-    scratch: usize,
-) -> bool
-    requires { ⌜ (parts ≤ 2) × (n ≤ 1024) ⌝ }
-    ensures { λ r. ⌜ r ≡ blockFits parts n a b c window scratch ⌝ }
-{
-    if a != n {
-        return false;
-    }
-    if b != n {
-        return false;
-    }
-    if c != n {
-        return false;
-    }
-    lending::lengths_fit(window, 2 * n, scratch, parts * n)
 }
 
 // What a naive transform in place answers before it stores anything.
@@ -124,7 +98,7 @@ pub fn naive_block_answer(
     if table != 4 * n {
         return Answer::No(Refusal::Length);
     }
-    if !block_fits(0, n, a, b, c, window, scratch) {
+    if !lending::block_fits(0, n, a, b, c, window, scratch) {
         return Answer::No(Refusal::Length);
     }
     Answer::Done
@@ -152,7 +126,7 @@ pub fn fast_block_answer(
     if sines != 8192 {
         return Answer::No(Refusal::Length);
     }
-    if !block_fits(2, n, a, b, c, window, scratch) {
+    if !lending::block_fits(2, n, a, b, c, window, scratch) {
         return Answer::No(Refusal::Length);
     }
     Answer::Done

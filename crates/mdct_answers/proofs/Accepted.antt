@@ -3,8 +3,8 @@
 use mathlib.Core.Bool.{Bool, true, false}
 use mathlib.Core.List.{List, _++_}
 use mathlib.Core.Path.{_≡_}
-use Prim.Native.Nat.{ℕ, _*_, _≤_}
-use lib.Dec.{T, eqb, eqb→eq}
+use Prim.Native.Nat.{ℕ, _*_}
+use lib.Dec.{T}
 use lib.ListN.{length, take, drop}
 use Rattle.answers.specs.declared.Answer.{Answer}
 use Rattle.answers.specs.declared.Answer.the-variants.{Done, No}
@@ -12,38 +12,22 @@ use Rattle.answers.specs.declared.Refusal.{Refusal}
 use Rattle.lending.specs.Accepted.{Block, MdctAccepted, ImdctAccepted}
 use Rattle.lending.proofs.Accepted.{done-passed, outcome-of-done, outcome-of-refused, spread-of-done, spread-of-refused}
 use Rattle.lending.proofs.Bad.{sound-residues}
-use Rattle.lending.proofs.Lengths.{fit-lengths}
+use Rattle.lending.proofs.Lengths.{fit-block}
+use Rattle.lending.proofs.Tests.{all-four}
 use Rattle.sums.proofs.Sizes.{allowed-exponent}
-use Rattle.ring.specs.Finite.{both}
 use Rattle.ring.specs.Part.{cleared}
-use Rattle.ring.proofs.Below.{both-left, both-right}
 use Rattle.sums.specs.Bad.{soundEntries}
 use Rattle.sums.specs.Call.{outcome, spread, blockLengths, mdctAnswer, mdctCall, imdctAnswer, imdctCall}
-use Rattle.sums.specs.Lengths.{lengthsFit}
 use Rattle.sums.specs.Residue.{Residues}
 use Rattle.sums.specs.Size.{allowedSize}
 use Rattle.sums.specs.Transform.{mdctSum, imdctSum}
 use Rattle.sums.specs.Window.{acceptedWindow}
 use Rattle.mdct_answers.specs.Searched.{searched, blockSound, blockAnswer}
 
--- four tests in a row
-all-four : (w x y z : Bool) → T (both w (both x (both y z))) → T w × T x × T y × T z
-all-four w x y z t =
-    let rest = both-right w (both x (both y z)) t in
-    let last = both-right x (both y z) rest in
-    (both-left w (both x (both y z)) t, both-left x (both y z) rest, both-left y z last, both-right y z last)
-
 module _ (parts n : ℕ) (a b c w : List ℕ) (scratchLength : ℕ) where
-  -- what the tests of the lengths and of the residues say, one by one
-  lengths : T (blockLengths parts n a b c w scratchLength)
-      → T (eqb (length a) n) × T (eqb (length b) n) × T (eqb (length c) n) × T (lengthsFit (length w) (2 * n) scratchLength (parts * n))
-  lengths = all-four (eqb (length a) n) (eqb (length b) n) (eqb (length c) n) (lengthsFit (length w) (2 * n) scratchLength (parts * n))
-
+  -- what the tests of the residues say, one by one
   sounds : (added : Bool) → T (blockSound added a b c w) → T (soundEntries a) × T (soundEntries b) × T (searched added c) × T (soundEntries w)
   sounds added = all-four (soundEntries a) (soundEntries b) (searched added c) (soundEntries w)
-
-  pub window-fits : T (blockLengths parts n a b c w scratchLength) → (length w ≡ 2 * n) × (parts * n ≤ scratchLength)
-  window-fits t = fit-lengths (length w) (2 * n) scratchLength (parts * n) (lengths t .3)
 
   pub window-sound : (added : Bool) → T (blockSound added a b c w) → Residues w
   window-sound added t = sound-residues w (sounds added t .3)
@@ -55,17 +39,17 @@ module _ (parts n : ℕ) (a b c w : List ℕ) (scratchLength : ℕ) where
     block : Block parts n a b c w scratchLength
     block =
         let size = allowed-exponent 2 n (passed .0) in
-        let tests = lengths (passed .1) in
+        let fit = fit-block parts n (length a) (length b) (length c) (length w) scratchLength (passed .1) in
         record {
           exponent = size .0;
           small = size .1;
           power = size .2;
           enough = size .3;
-          a-length = eqb→eq (length a) n (tests .0);
-          b-length = eqb→eq (length b) n (tests .1);
-          c-length = eqb→eq (length c) n (tests .2);
-          window-length = window-fits (passed .1) .0;
-          room = window-fits (passed .1) .1;
+          a-length = fit .0;
+          b-length = fit .1;
+          c-length = fit .2;
+          window-length = fit .3;
+          room = fit .4;
           window-residues = window-sound added (passed .2);
         }
 

@@ -2,35 +2,10 @@
 // Both are lent three slices of n entries, a window of 2n, and scratch of `parts` times n: no part for the naive sums, two for the fast way.
 ghost use mathlib.Core.Path.{_≡_};
 ghost use Prim.Native.Nat.{_≤_};
-ghost use Rattle.sums.specs.Call.{blockLengths, mdctAnswer, imdctAnswer};
+ghost use Rattle.sums.specs.Call.{mdctAnswer, imdctAnswer};
 ghost use Rattle.mdct_answers.specs.Searched.{searched, blockSound, blockAnswer};
 use answers::Answer;
 use answers::Refusal;
-
-// Whether all lengths are as wanted.
-fn block_lengths(
-    parts: usize,
-    n: usize,
-    a: &[u32],
-    b: &[u32],
-    c: &[u32],
-    window: &[u32],
-    scratch: usize,
-) -> bool
-    requires { ⌜ (parts ≤ 2) × (n ≤ 1024) ⌝ }
-    ensures { λ r. ⌜ r ≡ blockLengths parts n (now (a .entry)) (now (b .entry)) (now (c .entry)) (now (window .entry)) scratch ⌝ }
-{
-    if a.len() != n {
-        return false;
-    }
-    if b.len() != n {
-        return false;
-    }
-    if c.len() != n {
-        return false;
-    }
-    lending::lengths_fit(window.len(), 2 * n, scratch, parts * n)
-}
 
 // A slice that is overwritten may hold anything; one that is added to must hold residues.
 fn third_sound(added: bool, entries: &[u32]) -> bool
@@ -72,7 +47,7 @@ fn block_answer(
     if !lending::allowed_size(2, n) {
         return Answer::No(Refusal::Size);
     }
-    if !block_lengths(parts, n, a, b, c, window, scratch) {
+    if !lending::block_fits(parts, n, a.len(), b.len(), c.len(), window.len(), scratch) {
         return Answer::No(Refusal::Length);
     }
     if !block_sound(added, a, b, c, window) {

@@ -1,168 +1,21 @@
 // Overlapped blocks, there and back: the MDCTs of neighbouring segments of a curve, with a segment of zeros before the first and after the
-// last, and the IMDCTs of all of these added up, which should be the curve.
+// last, and the IMDCTs of all of these added up, which should be the curve. What is done with one block is in `block`.
 ghost use mathlib.Core.Path.{_≡_};
 ghost use Prim.Native.Nat.{_*_, _≤_};
 ghost use lib.ListN.{length};
+use crate::block::advance;
 use counting::count;
 use counting::count::Tally;
 use counting::entries;
-use mdct_lent::call::call;
 use mdct_lent::case;
 use mdct_lent::lent::lend_window;
 
-// How much of scratch a call zeroes: none by the naive way, which is 0, and 2n by the fast one, which is 1.
-fn zeros(way: usize, n: usize) -> usize
-    requires { ⌜ n ≤ 1024 ⌝ }
-{
-    if way == 0 { 0 } else { 2 * n }
-}
-
-// The call of a number on a slice before the window, which stands in `read` from n on.
-fn step(
-    which: usize,
-    zeroed: usize,
-    one: &[u32],
-    read: &mut [u32],
-    before: &mut [u32],
-    two: &mut [u32],
-    three: &mut [u32],
-    scratch: &mut [u32],
-) -> Tally
-    requires { ⌜ (length (now one) ≤ length (now read)) × (length (now read) ≡ length (now before)) ⌝ }
-{
-    let n = one.len();
-    lending::copy(one, read);
-    lending::copy(read, before);
-    call(which, n, 0, zeroed, n, read, before, two, three, scratch)
-}
-
-// The way back of a block: the IMDCT adds to what the block before left in `sum`, which then is the segment, and leaves the rest in `next`.
-fn then_back(
-    there: Tally,
-    imdct: usize,
-    zeroed: usize,
-    segment: &[u32],
-    read: &mut [u32],
-    before: &mut [u32],
-    coefficients: &[u32],
-    sum: &mut [u32],
-    next: &mut [u32],
-    scratch: &mut [u32],
-) -> Tally
-    requires { ⌜ (length (now coefficients) ≤ length (now read)) × (length (now read) ≡ length (now before)) × (length (now sum) ≡ length (now segment)) ⌝ }
-{
-    let back = step(
-        imdct,
-        zeroed,
-        coefficients,
-        read,
-        before,
-        sum,
-        next,
-        scratch,
-    );
-    count::pair(there, back, entries::compare(sum, segment))
-}
-
-// One block, there and back.
-fn block(
-    mdct: usize,
-    imdct: usize,
-    zeroed: usize,
-    segment: &[u32],
-    following: &mut [u32],
-    read: &mut [u32],
-    before: &mut [u32],
-    coefficients: &mut [u32],
-    sum: &mut [u32],
-    next: &mut [u32],
-    scratch: &mut [u32],
-) -> Tally
-    requires { ⌜ (length (now segment) ≤ length (now read)) × (length (now read) ≡ length (now before)) × (length (now coefficients) ≡ length (now segment)) × (length (now sum) ≡ length (now segment)) ⌝ }
-{
-    let there = step(
-        mdct,
-        zeroed,
-        segment,
-        read,
-        before,
-        following,
-        coefficients,
-        scratch,
-    );
-    then_back(
-        there,
-        imdct,
-        zeroed,
-        segment,
-        read,
-        before,
-        coefficients,
-        sum,
-        next,
-        scratch,
-    )
-}
-
-// The same without the comparison for the first block, whose segment is the one of zeros before the curve.
-fn counted(first: bool, tally: Tally) -> Tally {
-    let mut result = tally;
-    if first {
-        result.outputs = count::none();
-    }
-    result
-}
-
-// What the block before left over is where the next one adds to.
-fn shift(next: &mut [u32], sum: &mut [u32])
-    requires { ⌜ length (now next) ≡ length (now sum) ⌝ }
-{
-    let n = next.len();
-    lending::copy(next, sum);
-    lending::clear(next, n);
-}
-
-// One block after another.
-fn advance(
-    mdct: usize,
-    imdct: usize,
-    zeroed: usize,
-    first: bool,
-    segment: &[u32],
-    after: &[u32],
-    following: &mut [u32],
-    read: &mut [u32],
-    before: &mut [u32],
-    coefficients: &mut [u32],
-    sum: &mut [u32],
-    next: &mut [u32],
-    scratch: &mut [u32],
-) -> Tally
-    requires { ⌜ (length (now after) ≤ length (now following)) × (length (now segment) ≤ length (now read)) × (length (now read) ≡ length (now before)) × (length (now coefficients) ≡ length (now segment)) × (length (now sum) ≡ length (now segment)) × (length (now next) ≡ length (now segment)) ⌝ }
-{
-    shift(next, sum);
-    lending::copy(after, following);
-    let tally = block(
-        mdct,
-        imdct,
-        zeroed,
-        segment,
-        following,
-        read,
-        before,
-        coefficients,
-        sum,
-        next,
-        scratch,
-    );
-    counted(first, tally)
-}
+mod block;
 
 // All blocks of a curve that has its segments of zeros.
 fn blocks(
     mdct: usize,
     imdct: usize,
-    zeroed: usize,
     n: usize,
     curve: &[u32],
     following: &mut [u32],
@@ -183,7 +36,6 @@ fn blocks(
         let done = advance(
             mdct,
             imdct,
-            zeroed,
             from == 0,
             &curve[from..middle],
             &curve[middle..end],
@@ -240,7 +92,6 @@ fn blocks_of(
     blocks(
         way,
         2 + way,
-        zeros(way, n),
         n,
         curve,
         following,

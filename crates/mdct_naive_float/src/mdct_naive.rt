@@ -1,14 +1,15 @@
 // mdct_naive.rs over f64. The table of 4n cosines is lent, entry i at (2i + 1)/(8n) of a turn. The Rust's twiddle index and stride are the first place and the step here.
-// Nothing but the lent slices is used.
+// No scratch is used.
 ghost use mathlib.Core.Path.{_≡_};
 ghost use Prim.Native.Nat.{_+_, _*_, _%_, _<_, _≤_};
 ghost use lib.ListN.{length};
 ghost use Rattle.algorithms.specs.Block.{naiveMdct, naiveImdctFirst, naiveImdctSecond};
 ghost use Rattle.floats.specs.Arithmetic.{floatOps};
 ghost use Rattle.floats.specs.Accepted.{NaiveBlock};
-ghost use Rattle.mdct_naive_float.specs.Sums.{windowedSum, plainSum};
-ghost use Rattle.mdct_naive_float.specs.Ready.{Places};
+ghost use Rattle.naive_float.specs.Ready.{SumReady};
+ghost use Rattle.mdct_naive_float.specs.Sums.{windowedSum};
 use floats::zero;
+use naive_float::angle_sums::angle_sum;
 use places::further;
 
 // One output's sum over one segment, which goes on from `begin`.
@@ -20,7 +21,7 @@ fn windowed_sum(
     first: usize,
     step: usize,
 ) -> f64
-    requires { ⌜ Places (length (now table)) first step × (length (now x) ≤ length (now window)) ⌝ }
+    requires { ⌜ SumReady (length (now table)) first step × (length (now x) ≤ length (now window)) ⌝ }
     ensures { λ r. ⌜ r ≡ windowedSum (now (table .entry)) (now (window .entry)) (now (x .entry)) begin first step ⌝ }
 {
     let mut sum = begin;
@@ -28,22 +29,6 @@ fn windowed_sum(
     let mut i = 0;
     while i < x.len() {
         sum = sum + x[i] * window[i] * table[at];
-        at = further(at, step, table.len());
-        i += 1;
-    }
-    sum
-}
-
-// One sum over the input.
-fn plain_sum(table: &[f64], x: &[f64], first: usize, step: usize) -> f64
-    requires { ⌜ Places (length (now table)) first step ⌝ }
-    ensures { λ r. ⌜ r ≡ plainSum (now (table .entry)) (now (x .entry)) first step ⌝ }
-{
-    let mut sum = zero();
-    let mut at = first;
-    let mut i = 0;
-    while i < x.len() {
-        sum = sum + x[i] * table[at];
         at = further(at, step, table.len());
         i += 1;
     }
@@ -93,7 +78,7 @@ fn add_first(n: usize, table: &[f64], input: &[f64], output: &mut [f64], window:
 {
     let mut k = 0;
     while k < n {
-        let sum = plain_sum(table, input, n / 2 + k, n + 2 * k + 1);
+        let sum = angle_sum(table, input, zero(), n / 2 + k, n + 2 * k + 1);
         output[k] = output[k] + sum * window[k];
         k += 1;
     }
@@ -107,9 +92,10 @@ fn add_second(n: usize, table: &[f64], input: &[f64], output: &mut [f64], window
     let mut k = 0;
     while k < n {
         let mirrored = if k < n / 2 { k } else { n - 1 - k };
-        let sum = plain_sum(
+        let sum = angle_sum(
             table,
             input,
+            zero(),
             2 * n + n / 2 - 1 - mirrored,
             n - 1 - 2 * mirrored,
         );

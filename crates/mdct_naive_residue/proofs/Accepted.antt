@@ -1,5 +1,5 @@
--- What an accepted MDCT or IMDCT may do: lend the table of powers, a half of the window (front-window, back-window) and one segment (segment-ready), and zero its
--- output (zeroed-length, zeroed-at, zeroed-residues). Neither needs scratch (mdct-without-scratch, imdct-without-scratch). Assumes nothing.
+-- What an accepted MDCT or IMDCT may do: lend the table of powers, a half of the window (front-window, back-window, halves) and one segment (segment-ready), and zero
+-- its output (zeroed-length, zeroed-at, zeroed-residues). Assumes nothing.
 use mathlib.Core.Path.{_≡_, refl, sym, _∙_, ap}
 use mathlib.Core.List.{List}
 use Prim.Native.Nat.{ℕ, _+_, _*_, _-_, _<_, _≤_}
@@ -9,7 +9,7 @@ use Rattle.ring.specs.Part.{cleared}
 use Rattle.sums.specs.Residue.{Residues, powersTable}
 use Rattle.sums.specs.Transform.{entry}
 use Rattle.sums.proofs.Powers.{powers-length, table-powers}
-use Rattle.lending.specs.Accepted.{Block, MdctAccepted, ImdctAccepted}
+use Rattle.lending.specs.Accepted.{Block}
 use Rattle.places.specs.Doubled.{Doubled}
 use Rattle.naive_residue.proofs.Parts.{Part, part-lent, part-residues}
 use Rattle.mdct_naive_residue.specs.Ready.{SegmentReady}
@@ -27,20 +27,6 @@ abbrev pub backOf : ℕ → List ℕ → List ℕ
 backOf n w = take (2 * n - n) (drop n w)
 
 module _ {parts n : ℕ} {a b c w : List ℕ} {scratchLength : ℕ} (block : Block parts n a b c w scratchLength) where
-  block-without : Block 0 n a b c w 0
-  block-without = record {
-    exponent = block .exponent;
-    small = block .small;
-    power = block .power;
-    enough = block .enough;
-    a-length = block .a-length;
-    b-length = block .b-length;
-    c-length = block .c-length;
-    window-length = block .window-length;
-    room = omega arith;
-    window-residues = block .window-residues;
-  }
-
   pub block-doubled : Doubled n
   block-doubled = record { times = block .exponent; small = block .small; power = block .power }
 
@@ -50,6 +36,13 @@ module _ {parts n : ℕ} {a b c w : List ℕ} {scratchLength : ℕ} (block : Blo
   pub back-window : Part n n w (backOf n w)
   back-window = part-lent w n (2 * n) (omega arith) (omega (arith, block .window-length))
 
+  -- either half has n entries, and they are residues
+  half : {from : ℕ} {w' : List ℕ} → from + n ≤ length w → Part from n w w' → (length w' ≡ n) × Residues w'
+  half fits part = (part .size, part-residues fits part (block .window-residues))
+
+  pub halves : ((length (frontOf n w) ≡ n) × Residues (frontOf n w)) × ((length (backOf n w) ≡ n) × Residues (backOf n w))
+  halves = (half (omega (arith, block .window-length)) front-window, half (omega (arith, block .window-length)) back-window)
+
   module _ {unit : ℕ} {table : List ℕ} (units : Units n unit table) where
     pub unit-small : unit ≤ 512
     unit-small = most (n - 2) (ap (λ (m : ℕ). unit * m) (omega (arith, block .enough)) ∙ units .each)
@@ -57,19 +50,17 @@ module _ {parts n : ℕ} {a b c w : List ℕ} {scratchLength : ℕ} (block : Blo
         most : (m : ℕ) → unit * (2 + m) ≡ 1024 → unit ≤ 512
         most m e = omega arith
 
-    pub segment-ready : {x out : List ℕ} {start : ℕ} (from end : ℕ) → start ≤ 3072 + unit → from ≤ n → end - from ≡ n
-        → Residues x → length x ≡ n → Residues out → length out ≡ n → SegmentReady table unit start (take (end - from) (drop from w)) x out
-    segment-ready from end early within half sound long held same =
+    pub segment-ready : {w' x out : List ℕ} {start : ℕ} → start ≤ 3072 + unit → (length w' ≡ n) × Residues w' → Residues x → length x ≡ n → Residues out
+        → length out ≡ n → SegmentReady table unit start w' x out
+    segment-ready early window sound long held same =
         let turn : length table ≡ 8192 = ap length (units .rule) ∙ powers-length 8192 in
         let small = unit-small in
-        let fits : from + n ≤ length w = omega (arith, block .window-length) in
-        let part = part-lent w from end half fits in
         record {
           powers = table-powers 8192 table refl (units .rule);
           unit-below = omega arith;
           start-below = omega arith;
           residues = sound;
-          under = record { same = part .size ∙ sym long; residues = part-residues fits part (block .window-residues) };
+          under = record { same = window .0 ∙ sym long; residues = window .1 };
           same = same ∙ sym long;
           held = held;
         }
@@ -89,20 +80,3 @@ module _ (n : ℕ) (out : List ℕ) {zeroed : List ℕ} (whole : length out ≡ 
 
   pub zeroed-residues : Residues zeroed
   zeroed-residues = record { below = λ k l. omega (arith, zeroed-at k (omega (arith, zeroed-length))) }
-
-pub mdct-without-scratch : {parts n : ℕ} {first second output w : List ℕ} {scratchLength : ℕ} → MdctAccepted parts n first second output w scratchLength
-    → MdctAccepted 0 n first second output w 0
-mdct-without-scratch m = record {
-  block = block-without (m .block);
-  first-residues = m .first-residues;
-  second-residues = m .second-residues;
-}
-
-pub imdct-without-scratch : {parts n : ℕ} {input first second w : List ℕ} {scratchLength : ℕ} → ImdctAccepted parts n input first second w scratchLength
-    → ImdctAccepted 0 n input first second w 0
-imdct-without-scratch m = record {
-  block = block-without (m .block);
-  input-residues = m .input-residues;
-  first-residues = m .first-residues;
-  second-residues = m .second-residues;
-}

@@ -1,4 +1,4 @@
-// mdct_naive.rs over residues. Nothing but the lent slices is used. An angle is a place in the table of all 8,192 powers, and `unit` of its entries make up 1/(8n)
+// mdct_naive.rs over residues. No scratch is used. An angle is a place in the table of all 8,192 powers, and `unit` of its entries make up 1/(8n)
 // of a turn: term i of output k stands at (2i + 1 + n)(2k + 1) units. The Rust's twiddle index and stride are such angles.
 // n units are 1024 places. So the sum for output 0 begins at 1024 + unit in the first segment and, n terms later, at 3072 + unit in the second.
 ghost use mathlib.Core.Path.{_≡_};

@@ -1,4 +1,4 @@
--- Sums of entries times entries of a table at evenly spaced places: the one form that the naive routines of types 2 and 3 share. Assumes nothing.
+-- Sums of entries times entries of a table at evenly spaced places: the one form that the naive routines of types 2 and 3 and the naive IMDCT share. Assumes nothing.
 use mathlib.Core.List.{List}
 use Prim.Native.Nat.{ℕ, _+_, _*_, _%_}
 use lib.Ieee.{Float}

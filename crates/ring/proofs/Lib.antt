@@ -1,4 +1,5 @@
 pub mod Below
+pub mod First
 pub mod Parity
 pub mod Powers
 pub mod Factor

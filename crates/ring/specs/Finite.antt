@@ -1,4 +1,4 @@
--- Finite families given by a function of the index, which runs from 0: their sum, their list, and a test of them all.
+-- Finite families given by a function of the index, which runs from 0: their sum, their list, and a test of them all. And the first place of a list that passes a test.
 -- Over any type and any operation, so that whole numbers, residues and floats share them. Assumes nothing.
 use mathlib.Core.Bool.{Bool, true, false}
 use mathlib.Core.List.{List, [], _∷_}
@@ -22,3 +22,13 @@ both false b = false
 unfoldable pub allBelow : ℕ → (ℕ → Bool) → Bool
 allBelow zero test = true
 allBelow (suc n) test = both (allBelow n test) (test n)
+
+-- here if the test says so, else one place beyond what the rest says
+abbrev pub placeBy : Bool → ℕ → ℕ
+placeBy true rest = zero
+placeBy false rest = suc rest
+
+-- the place of the first entry that passes the test, or the length where there is none
+unfoldable pub firstPlace : {A : Type 0} → (A → Bool) → List A → ℕ
+firstPlace test [] = zero
+firstPlace test (entry ∷ rest) = placeBy (test entry) (firstPlace test rest)

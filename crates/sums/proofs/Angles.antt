@@ -1,7 +1,7 @@
 -- Document 01's cos and sin over residues obey the laws of angles. Each is carried over from the turn of 8192 units over residues:
 -- `of-cos` and `of-sin` say that the definitions are that turn's cs and sn.
 -- Divisions: cos-divided, sin-divided. Sums: cos-add, sin-add, square-sum. Shifts: cos-turn, sin-turn, cos-half-turn, sin-half-turn,
--- sin-is-cos, cos-mod, sin-mod. Reflections: cos-quarter-less, sin-mirror. Assumes nothing.
+-- sin-is-cos, cos-mod, sin-mod. Reflections: cos-opposite, sin-opposite, cos-quarter-less, sin-mirror. Assumes nothing.
 use mathlib.Core.Path.{_≡_, sym, _∙_, ap, ap₂}
 use Prim.Native.Nat.{ℕ, _+_, _*_, _^_, _%_, _/_, _<_}
 use native.Mathlib.Nat as Nat
@@ -164,6 +164,22 @@ inverse-power a b t e =
 pub sin-quarter-more : (k : ℕ) → sinOf (k + 2048) ≡ cosOf k
 sin-quarter-more k =
     sin-only (k + 2048) (cosOf k) (Turn.sn-quarter-more Zp 2048 turn k ∙ sym (of-cos k)) ∙ cos-reduced k
+
+-- −a is whole turns less a: its cosine is that of a, and its sine the negative
+pub cos-opposite : (a b t : ℕ) → a + b ≡ 8192 * t → cosOf b ≡ cosOf a
+cos-opposite a b t e =
+    let turns : a + b ≡ 2 * 2048 * (2 * t) = omega arith in
+    cos-only b (cosOf a)
+    (Turn.cs-mirror Zp 2048 turn a b (2 * t) turns ∙ ap (λ (x : Residue p). Zp .mul x (cosine a)) (Sign.sign-even Zp t) ∙ Zp .one-mul (cosine a)
+    ∙ sym (of-cos a))
+    ∙ cos-reduced a
+
+pub sin-opposite : (a b t : ℕ) → a + b ≡ 8192 * t → sinOf b ≡ minusOne * sinOf a % p
+sin-opposite a b t e =
+    let turns : a + b ≡ 2 * 2048 * (2 * t) = omega arith in
+    sin-only b (minusOne * sinOf a)
+    (Turn.sn-mirror Zp 2048 turn a b (2 * t) turns ∙ ap (λ (x : Residue p). Zp .neg (Zp .mul x (sine a))) (Sign.sign-even Zp t)
+    ∙ ap (Zp .neg) (Zp .one-mul (sine a) ∙ sym (of-sin a)) ∙ sym (of-minus (sinOf a)))
 
 -- a quarter of a turn less a has the sine of a as its cosine
 pub cos-quarter-less : (a b : ℕ) → a + b ≡ 2048 → cosOf b ≡ sinOf a

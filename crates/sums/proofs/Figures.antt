@@ -1,12 +1,12 @@
 -- Document 01, "Twelve figures to be shown together": proved from the definitions by a single computed list.
--- The definitions name unreduced powersOfTwo of g, which grow to 400,000 bits; `cos-fast` and `sin-fast` put powersOfTwo by repeated squaring,
+-- The definitions name unreduced powers of g, which grow to 400,000 bits; `cos-fast` and `sin-fast` put powers by repeated squaring,
 -- reduced at each step, in their place, and the list then computes. Assumes nothing.
 use mathlib.Core.Path.{_≡_, refl, sym, _∙_, ap, fun-ext}
 use Prim.Native.Nat.{ℕ, zero, suc, _+_, _*_, _^_, _%_, _/_, _≤_}
 use native.Mathlib.Nat as Nat
 use native.Mathlib.Omega.{arith}
 use lib.Pow.{pow-add}
-use Rattle.ring.specs.Finite.{sumOf, tab, allBelow}
+use Rattle.ring.specs.Finite.{sumOf, tab, allBelow, firstPlace}
 use Rattle.ring.proofs.Modular.{mod-mul, mul-mod}
 use Rattle.sums.specs.Residue.{p, half, minusOne, g, g⁻¹, √2, √2⁻¹}
 use Rattle.sums.specs.Angle.{cosOf, sinOf}
@@ -14,7 +14,7 @@ use Rattle.sums.specs.Transform.{dct2Sum, dst2Sum, dct3Sum, dst3Sum, dct
 use Rattle.sums.specs.Window.{acceptedWindow, flatWindow}
 use Rattle.sums.specs.Size.{oneOf, powersOfTwo, powerOfTwo, allowedSize}
 use Rattle.sums.specs.Lengths.{lengthsFit}
-use Rattle.sums.specs.Bad.{firstBad, soundEntries}
+use Rattle.sums.specs.Bad.{soundEntries}
 use Rattle.sums.specs.Figure.{computedFigures, statedFigures}
 use Rattle.sums.specs.Curve.{blocksAfter, blocksOf, overlapped, curveOf, total, pooled, pooledBlocks}
 use Rattle.sums.specs.Example.{computedExamples, statedExamples, computedReading, statedReading}
@@ -86,11 +86,11 @@ pub the-twelve : computedFigures ≡ statedFigures
 unfolding dct2Sum dst2Sum dct3Sum dst3Sum dct4Sum
 the-twelve =
     rw (cos-fast, sin-fast)
-    (unfold sumOf tab allBelow cosFast sinFast power acceptedWindow oneOf powersOfTwo powerOfTwo allowedSize lengthsFit firstBad soundEntries in refl)
+    (unfold sumOf tab allBelow cosFast sinFast power acceptedWindow oneOf powersOfTwo powerOfTwo allowedSize lengthsFit firstPlace soundEntries in refl)
 
--- the examples of MDCT, IMDCT and DST-IV
+-- the examples of DST-IV
 pub the-examples : computedExamples ≡ statedExamples
-unfolding mdctSum imdctSum dct4Sum dst4Sum flatWindow
+unfolding dct4Sum dst4Sum
 the-examples =
     rw (cos-fast, sin-fast) (unfold sumOf tab cosFast sinFast power √2⁻¹ √2 g g⁻¹ in refl)
 

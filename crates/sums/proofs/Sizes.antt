@@ -10,10 +10,9 @@ use native.Mathlib.Omega.{arith}
 use lib.Dec.{T, leb, leb→le, le→leb, eqb, eqb→eq, eqb-refl}
 use lib.Pow.{pow-mono, pow-pos}
 use borrow.Author.Tests.{eq-eqb, ne-eqb}
-use Rattle.ring.specs.Finite.{tab}
+use Rattle.ring.specs.Finite.{tab, placeBy, firstPlace}
 use Rattle.ring.proofs.Below.{both-left, both-right, both-of}
-use Rattle.sums.specs.Bad.{placeBy}
-use Rattle.sums.specs.Size.{oneOf, powersOfTwo, powerOfTwo, allowedSize, placeIn, exponentOf}
+use Rattle.sums.specs.Size.{oneOf, powersOfTwo, powerOfTwo, allowedSize, exponentOf}
 
 pub or-cases : (a b : Bool) → T (a || b) → T a ⊎ T b
 or-cases true b t = inl tt
@@ -62,10 +61,10 @@ exponent-allowed least m small enough =
     (tab-one-of 11 (λ k. 2 ^ k) m (omega arith))
 
 -- the place of an entry that stands nowhere before
-place-in-tab : (count : ℕ) (f : ℕ → ℕ) (k : ℕ) → k < count → ((i : ℕ) → i < k → f k ≡ f i → ⊥) → placeIn (tab count f) (f k) ≡ k
-unfolding placeIn tab
+place-in-tab : (count : ℕ) (f : ℕ → ℕ) (k : ℕ) → k < count → ((i : ℕ) → i < k → f k ≡ f i → ⊥) → firstPlace (eqb (f k)) (tab count f) ≡ k
+unfolding firstPlace tab
 place-in-tab zero f k l fresh = omega arith
-place-in-tab (suc count) f zero l fresh = ap (λ (b : Bool). placeBy b (placeIn (tab count (λ k. f (suc k))) (f zero))) (eq-eqb (f zero) (f zero) refl)
+place-in-tab (suc count) f zero l fresh = ap (λ (b : Bool). placeBy b (firstPlace (eqb (f zero)) (tab count (λ k. f (suc k))))) (eq-eqb (f zero) (f zero) refl)
 place-in-tab (suc count) f (suc k) l fresh =
     ap₂ placeBy (ne-eqb (f (suc k)) (f zero) (fresh zero (omega arith)))
     (place-in-tab count (λ k. f (suc k)) k (omega arith) (λ i below. fresh (suc i) (omega arith)))
@@ -73,7 +72,7 @@ place-in-tab (suc count) f (suc k) l fresh =
 pub exponent-of : (n m : ℕ) → m ≤ 10 → n ≡ 2 ^ m → exponentOf n ≡ m
 unfolding exponentOf powersOfTwo
 exponent-of n m small is =
-    ap (placeIn (tab 11 (λ k. 2 ^ k))) is
+    ap (λ (i : ℕ). firstPlace (eqb i) (tab 11 (λ k. 2 ^ k))) is
     ∙ place-in-tab 11 (λ k. 2 ^ k) m (omega arith) (λ i below same. omega (arith, pow-mono below, pow-suc 2 i, pow-pos i))
 
 pub allowed-power : (least n : ℕ) → T (allowedSize least n) → (exponentOf n ≤ 10) × (n ≡ 2 ^ exponentOf n)

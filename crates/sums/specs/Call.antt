@@ -1,4 +1,5 @@
--- What each public call answers, for all input. Assumes nothing.
+-- Document 01, "Numbers for no" and "Sizes": what each public call over residues answers, and what the lent slices then hold, for all input. The records and what a call
+-- makes of its answer are over any type of entry; calls on floats share them. Assumes nothing.
 use mathlib.Core.Bool.{Bool, true}
 use mathlib.Core.List.{List, [], _++_}
 use Prim.Native.Nat.{ℕ, _*_}

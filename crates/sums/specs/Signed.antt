@@ -10,6 +10,7 @@ abbrev pub residueOf : ℤ → ℕ
 residueOf (pos n) = n
 residueOf (negsuc n) = p - suc n
 
+-- a residue read as it is, or less p. For r below p, `negsuc (p - suc r)` is r − p
 abbrev pub signedBy : Bool → ℕ → ℤ
 signedBy true r = pos r
 signedBy false r = negsuc (p - suc r)

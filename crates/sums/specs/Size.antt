@@ -1,10 +1,9 @@
 -- Document 01, "Sizes": the lengths that the fast routines and all residues allow. Assumes nothing.
 use mathlib.Core.Bool.{Bool, false, _||_}
 use mathlib.Core.List.{List, [], _∷_}
-use Prim.Native.Nat.{ℕ, zero, _^_}
+use Prim.Native.Nat.{ℕ, _^_}
 use lib.Dec.{leb, eqb}
-use Rattle.ring.specs.Finite.{both, tab}
-use Rattle.sums.specs.Bad.{placeBy}
+use Rattle.ring.specs.Finite.{both, tab, firstPlace}
 
 -- n is an entry of the list
 unfoldable pub oneOf : List ℕ → ℕ → Bool
@@ -23,11 +22,6 @@ powerOfTwo n = oneOf powersOfTwo n
 unfoldable pub allowedSize : ℕ → ℕ → Bool
 allowedSize least n = both (leb least n) (powerOfTwo n)
 
--- the place of n in the list, or the length where it has none
-unfoldable pub placeIn : List ℕ → ℕ → ℕ
-placeIn [] n = zero
-placeIn (entry ∷ rest) n = placeBy (eqb n entry) (placeIn rest n)
-
 -- m, where n = 2^m is one of 1, 2, 4, .., 1024
 unfoldable pub exponentOf : ℕ → ℕ
-exponentOf n = placeIn powersOfTwo n
+exponentOf n = firstPlace (eqb n) powersOfTwo

@@ -2,6 +2,7 @@
 // No count is known beforehand: each comes from a call's answer or from a comparison of entries.
 mod accept;
 mod call;
+mod order;
 mod refuse;
 mod tests;
 
@@ -14,5 +15,5 @@ fn main() {
     tests::sizes();
     tests::lengths();
     tests::residues();
-    tests::order();
+    order::all();
 }

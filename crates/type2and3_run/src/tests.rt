@@ -17,16 +17,29 @@ fn accepted(tally: Tally, outputs: &[u8]) {
     );
 }
 
-pub fn agreement() {
-    print::text(
-        b"Naive and fast on the same residues, the first of them p - 1 and from N = 2 on a middle one 0. Scratch has N + 5 entries.\n",
-    );
+// The naive and the fast calls at every N, after the text that says on what. Where `place` is one of the buffer's, p - 1 stands there.
+fn agreement_of(what: &[u8], place: usize) {
+    print::text(what);
     let mut n = 1;
     while n <= 1024 {
         print::size(n);
-        accepted(agree(n, 5, 0, P - 1), b" outputs are the same by both; ");
+        accepted(
+            agree(n, 5, place, P - 1),
+            b" outputs are the same by both; ",
+        );
         n = 2 * n;
     }
+}
+
+pub fn agreement() {
+    agreement_of(
+        b"Naive and fast on the same residues, as if by chance. Scratch has N + 5 entries.\n",
+        usize::MAX,
+    );
+    agreement_of(
+        b"The same, the first of them p - 1 and from N = 2 on a middle one 0.\n",
+        0,
+    );
 }
 
 pub fn round_trip() {
@@ -92,26 +105,6 @@ fn wrong_length(kind: usize, n: usize) -> Case
     case
 }
 
-fn length(kind: usize, what: &[u8]) {
-    let mut sum = count::nothing();
-    let mut n = 1;
-    while n <= 1024 {
-        sum = count::together(sum, refuse(wrong_length(kind, n)));
-        n = 2 * n;
-    }
-    print::text(what);
-    print::refused(sum, 2);
-}
-
-pub fn lengths() {
-    print::text(b"Lengths, at every N.\n");
-    length(0, b"Buffer one short: ");
-    length(1, b"Buffer one long: ");
-    length(2, b"Buffer empty: ");
-    length(3, b"Scratch one short: ");
-    length(4, b"Scratch empty: ");
-}
-
 // The first, a middle and the last place.
 fn place(kind: usize, n: usize) -> usize
     requires { ⌜ 1 ≤ n ⌝ }
@@ -124,81 +117,74 @@ fn place(kind: usize, n: usize) -> usize
 }
 
 // An entry that is no residue.
-fn no_residue(kind: usize, value: u32, what: &[u8]) {
-    let mut sum = count::nothing();
-    let mut n = 1;
-    while n <= 1024 {
-        let tally = refuse(Case {
-            n: n,
-            buffer: n,
-            scratch: n,
-            place: place(kind, n),
-            value: value,
-            number: 3,
-        });
-        sum = count::together(sum, tally);
-        n = 2 * n;
+fn no_residue(kind: usize, value: u32, n: usize) -> Case
+    requires { ⌜ (1 ≤ n) × (n ≤ 1024) ⌝ }
+    ensures { λ r. ⌜ (r .buffer ≤ 2048) × (r .scratch ≤ 2048) ⌝ }
+{
+    Case {
+        n: n,
+        buffer: n,
+        scratch: n,
+        place: place(kind, n),
+        value: value,
+        number: 3,
     }
-    print::text(what);
-    print::refused(sum, 3);
 }
 
-// The largest residue.
-fn largest_residue(kind: usize, what: &[u8]) {
+// What is run at a size, by the number that the calls should answer: at 2 they have a wrong length, at 3 an entry that is no residue, and else one that is.
+fn run(number: u32, kind: usize, value: u32, n: usize) -> Tally
+    requires { ⌜ (1 ≤ n) × (n ≤ 1024) ⌝ }
+{
+    match number {
+        2 => refuse(wrong_length(kind, n)),
+        3 => refuse(no_residue(kind, value, n)),
+        _ => agree(n, 0, place(kind, n), value),
+    }
+}
+
+fn every(number: u32, kind: usize, value: u32) -> Tally {
     let mut sum = count::nothing();
     let mut n = 1;
     while n <= 1024 {
-        sum = count::together(sum, agree(n, 0, place(kind, n), P - 1));
+        sum = count::together(sum, run(number, kind, value, n));
         n = 2 * n;
     }
+    sum
+}
+
+fn length(what: &[u8], kind: usize) {
     print::text(what);
-    accepted(sum, b" outputs are the same by both; ");
+    print::refused(every(2, kind, 0), 2);
+}
+
+pub fn lengths() {
+    print::text(b"Lengths, at every N.\n");
+    length(b"Buffer one short: ", 0);
+    length(b"Buffer one long: ", 1);
+    length(b"Buffer empty: ", 2);
+    length(b"Scratch one short: ", 3);
+    length(b"Scratch empty: ", 4);
+}
+
+fn entry(what: &[u8], kind: usize, value: u32) {
+    print::text(what);
+    print::refused(every(3, kind, value), 3);
+}
+
+fn largest_residue(what: &[u8], kind: usize) {
+    print::text(what);
+    accepted(every(0, kind, P - 1), b" outputs are the same by both; ");
 }
 
 pub fn residues() {
     print::text(b"One entry of the buffer, at every N.\n");
-    no_residue(0, P, b"The first is p: ");
-    no_residue(1, P, b"A middle one is p: ");
-    no_residue(2, P, b"The last is p: ");
-    no_residue(0, u32::MAX, b"The first is 4294967295: ");
-    no_residue(1, u32::MAX, b"A middle one is 4294967295: ");
-    no_residue(2, u32::MAX, b"The last is 4294967295: ");
-    largest_residue(0, b"The first is p - 1: ");
-    largest_residue(1, b"A middle one is p - 1: ");
-    largest_residue(2, b"The last is p - 1: ");
-}
-
-// Several reasons at once. The entry at place 3 is `value`.
-fn several(n: usize, buffer: usize, scratch: usize, value: u32, number: u32, what: &[u8])
-    requires { ⌜ (buffer ≤ 2048) × (scratch ≤ 2048) ⌝ }
-{
-    print::text(what);
-    print::refused(
-        refuse(Case {
-            n: n,
-            buffer: buffer,
-            scratch: scratch,
-            place: 3,
-            value: value,
-            number: number,
-        }),
-        number,
-    );
-}
-
-pub fn order() {
-    print::text(b"Several reasons at once.\n");
-    several(12, 11, 12, P, 1, b"N = 12, a buffer of 11 with p in it: ");
-    several(12, 11, 12, 0, 1, b"N = 12, a buffer of 11: ");
-    several(12, 12, 11, 0, 1, b"N = 12, scratch of 11: ");
-    several(12, 12, 12, P, 1, b"N = 12, p in the buffer: ");
-    several(16, 17, 16, P, 2, b"N = 16, a buffer of 17 with p in it: ");
-    several(
-        16,
-        16,
-        15,
-        P,
-        2,
-        b"N = 16, scratch of 15, p in the buffer: ",
-    );
+    entry(b"The first is p: ", 0, P);
+    entry(b"A middle one is p: ", 1, P);
+    entry(b"The last is p: ", 2, P);
+    entry(b"The first is 4294967295: ", 0, u32::MAX);
+    entry(b"A middle one is 4294967295: ", 1, u32::MAX);
+    entry(b"The last is 4294967295: ", 2, u32::MAX);
+    largest_residue(b"The first is p - 1: ", 0);
+    largest_residue(b"A middle one is p - 1: ", 1);
+    largest_residue(b"The last is p - 1: ", 2);
 }

@@ -80,6 +80,17 @@ module _ (N m share : ℕ) (power : N ≡ 2 ^ m) (is : share ≡ 2 * half ^ m % 
       ∙ sym (of-mul p above (half ^ m) 2) ∙ ap (of p) (Nat.mul-comm (half ^ m) 2))
       ∙ sym is
 
+-- less a share of 2/N, a number is a multiple of p exactly if the share is its residue
+module _ (N share : ℕ) (is : share ≡ 2 * half ^ exponentOf N % p) where
+  pub share-below : share < p
+  share-below = omega (arith, is)
+
+  pub share-left : (x : ℕ) → (x + (p - share)) % p ≡ 0 → x % p ≡ share
+  share-left x e = omega (arith, share-below)
+
+  pub share-gone : (x : ℕ) → x % p ≡ share → (x + (p - share)) % p ≡ 0
+  share-gone x e = omega (arith, share-below)
+
 -- the squares of an entry of the first half and of the one as far from the half's end
 abbrev pub squares : ℕ → List ℕ → ℕ → ℕ
 squares N w i = entry w i * entry w i + entry w (N - 1 - i) * entry w (N - 1 - i)
@@ -92,12 +103,12 @@ module _ (N share : ℕ) (w : List ℕ) (allowed : T (allowedSize 2 N)) (same : 
       ap (λ (y : ℕ). N * (entry w i * entry w i + y * y) % p)
       (sym (eqb→eq (entry w (N + i)) (entry w (2 * N - 1 - (N + i))) (all-below-at (2 * N) (mirrored N w) same (N + i) (omega arith)) ∙ ap (entry w) place))
 
-  pub power-fails : (i r : ℕ) → i < N → r ≡ squares N w i % p → (r ≡ share → ⊥) → false ≡ unitPower N w
+  pub power-fails : (i r : ℕ) → i < N → r ≡ (squares N w i + (p - share)) % p → (r ≡ 0 → ⊥) → false ≡ unitPower N w
   power-fails i r below squared other =
       all-below-fails N (powerTwo N w) i below
       (λ t.
-      other (squared ∙ share-needed N (exponentOf N) share (allowed-power 2 N allowed .1) is (squares N w i)
-      (overlap i below ∙ eqb→eq (N * (entry w i * entry w i + entry w (N + i) * entry w (N + i)) % p) 2 t)))
+      other (squared ∙ share-gone N share is (squares N w i) (share-needed N (exponentOf N) share (allowed-power 2 N allowed .1) is (squares N w i)
+      (overlap i below ∙ eqb→eq (N * (entry w i * entry w i + entry w (N + i) * entry w (N + i)) % p) 2 t))))
 
   pub power-all : (i : ℕ) → ((k : ℕ) → k < i → squares N w k % p ≡ share) → N ≤ 2 * i → true ≡ unitPower N w
   power-all i before past =

@@ -1,5 +1,5 @@
 -- A loop that doubles a size from 1 up to n = 2^m and multiplies a value by a factor each time: the value is then the first one times the factor's m-th power. Assumes nothing.
-use mathlib.Core.Path.{_≡_, sym, _∙_, ap, subst}
+use mathlib.Core.Path.{_≡_, sym, _∙_, ap}
 use Prim.Native.Nat.{ℕ, suc, _*_, _^_, _%_, _<_, _≤_}
 use native.Mathlib.Nat as Nat
 use native.Mathlib.Omega.{arith}
@@ -31,9 +31,6 @@ module _ (n first factor : ℕ) (allowed : T (allowedSize 2 n)) where
   }
 
   module _ {size value : ℕ} (s : Scaled n first factor size value) where
-    pub scaled-below : value < p
-    scaled-below = subst (λ (x : ℕ). x < p) (sym (s .is)) (Nat.mod-lt (first * factor ^ s .times) (omega arith))
-
     pub scaled-positive : 0 < size
     scaled-positive = omega (arith, s .power, pow-pos (s .times))
 

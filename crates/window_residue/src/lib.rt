@@ -3,7 +3,7 @@
 // or refuse by 1 and 2, in that order, and then change nothing.
 ghost use mathlib.Core.Path.{_≡_};
 ghost use mathlib.Core.List.{[]};
-ghost use Prim.Native.Nat.{_+_, _*_, _^_, _%_, _<_};
+ghost use Prim.Native.Nat.{_+_, _*_, _-_, _^_, _%_, _<_};
 ghost use lib.Dec.{T};
 ghost use lib.ListN.{length};
 ghost use Rattle.ring.specs.Finite.{tab};
@@ -57,16 +57,16 @@ fn symmetric(window: &[u32], n: usize) -> bool
     same
 }
 
-// The sum of two squares, which fits one reduction.
-fn power(a: u32, b: u32) -> u32
-    requires { ⌜ (a < p) × (b < p) ⌝ }
-    ensures { λ r. ⌜ r ≡ (a * a + b * b) % p ⌝ }
+// The sum of two squares less a share, for which p less the share is added, so that one reduction does.
+fn power_less(a: u32, b: u32, share: u32) -> u32
+    requires { ⌜ (a < p) × (b < p) × (share < p) ⌝ }
+    ensures { λ r. ⌜ r ≡ (a * a + b * b + (p - share)) % p ⌝ }
 {
-    reduce((a as u64) * (a as u64) + (b as u64) * (b as u64))
+    reduce((a as u64) * (a as u64) + (b as u64) * (b as u64) + ((998244353 - share) as u64))
 }
 
 // Each entry and the one that overlaps it carry the power 2/n between them. In a symmetric window the one n places on is also the one as far from the end of the first half,
-// so the first quarter stands for all.
+// so the first quarter stands for all. What is compared with 0 takes one product to reduce, where another number takes two.
 fn unit_power(window: &[u32], n: usize, share: u32) -> bool
     requires { ⌜ (length (now window) ≡ 2 * n) × T (allowedSize 2 n) × Residues (now window) × T (symmetricWindow n (now window)) × (share ≡ 2 * half ^ exponentOf n % p) ⌝ }
     ensures { λ r. ⌜ r ≡ unitPower n (now (window .entry)) ⌝ }
@@ -74,7 +74,7 @@ fn unit_power(window: &[u32], n: usize, share: u32) -> bool
     let quarter = n / 2;
     let mut i = 0;
     while i < quarter {
-        if power(window[i], window[n - 1 - i]) != share {
+        if power_less(window[i], window[n - 1 - i], share) != 0 {
             return false;
         }
         i += 1;

@@ -49,7 +49,7 @@ fn main() {
     floats::compare(&run, &mut report);
     float_refusals::compare(&run, &mut report);
     residues::compare(&run, &mut report);
-    if !report.finish() {
+    if !report.finish(if run.part { 200_000 } else { 10_000_000 }) {
         exit(1);
     }
 }

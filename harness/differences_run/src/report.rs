@@ -72,8 +72,8 @@ impl Report {
         self.tables += differences;
     }
 
-    /// Prints the table and the last line. Answers whether there is no difference.
-    pub fn finish(&self) -> bool {
+    /// Prints the table and the last line. Answers whether there is no difference, in so many words at least.
+    pub fn finish(&self, least: usize) -> bool {
         println!();
         println!("| routine | calls | refused among them | words compared | differences |");
         println!("|---|---:|---:|---:|---:|");
@@ -86,6 +86,9 @@ impl Report {
         println!();
         let (words, differences) = self.totals();
         println!("differences: {words} words compared, {differences} differences");
-        differences == 0
+        if words < least {
+            println!("differences: at least {least} words were to be compared");
+        }
+        differences == 0 && words >= least
     }
 }

@@ -1,8 +1,9 @@
 //! Says that the oracle is put together rightly: at every power of two up to 1024 its fast routines agree with its naive ones up to
-//! rounding, and type 4, which has no naive sum among the carried-over files, is N/2 times the identity when done twice. And says what
-//! it does where Kultygash refuses: at length 0, with scratch that is too short, and with scratch that is not zero.
+//! rounding, and type 4, which has no naive sum among the carried-over files, is N/2 times the identity when done twice. And shows what
+//! it does where Kultygash refuses (`behaviour`).
+mod behaviour;
+
 use oracle::mdct::window_fn;
-use std::panic::{catch_unwind, AssertUnwindSafe};
 use std::process::exit;
 
 /// Numbers between -1 and 1, the same at every run.
@@ -21,48 +22,8 @@ fn apart(x: &[f64], y: &[f64], len: usize) -> f64 {
     x.iter().zip(y).map(|(x, y)| (x - y).abs() / len as f64).fold(0.0, f64::max)
 }
 
-/// Whether it panics. Nothing is printed.
-fn panics(done: impl FnOnce()) -> bool {
-    let hook = std::panic::take_hook();
-    std::panic::set_hook(Box::new(|_| {}));
-    let result = catch_unwind(AssertUnwindSafe(done));
-    std::panic::set_hook(hook);
-    result.is_err()
-}
-
-type InPlace = fn(&dyn oracle::TransformType2And3<f64>, &mut [f64], &mut [f64]);
-
-const IN_PLACE: [(&str, InPlace); 4] = [
-    ("DCT-II", |t, x, s| t.process_dct2_with_scratch(x, s)),
-    ("DST-II", |t, x, s| t.process_dst2_with_scratch(x, s)),
-    ("DCT-III", |t, x, s| t.process_dct3_with_scratch(x, s)),
-    ("DST-III", |t, x, s| t.process_dst3_with_scratch(x, s)),
-];
-
-/// What the Rust does where the port refuses or leaves something else, as it is seen here.
-fn behaviour() {
-    let input = numbers(8, 1);
-    for (name, done) in IN_PLACE {
-        let empty = if panics(|| done(&*oracle::naive(0), &mut [], &mut [])) {
-            "panics"
-        } else {
-            "returns"
-        };
-        let (mut x, mut short) = (input.clone(), vec![0.0; 7]);
-        let stopped = panics(|| done(&*oracle::splitradix(8), &mut x, &mut short));
-        let answer = if stopped { "panics" } else { "returns" };
-        let held = if x == input { "as it was" } else { "altered" };
-        let (mut clean, mut dirty, mut zeros, mut noise) = (input.clone(), input.clone(), vec![0.0; 8], numbers(8, 2));
-        done(&*oracle::splitradix(8), &mut clean, &mut zeros);
-        done(&*oracle::splitradix(8), &mut dirty, &mut noise);
-        let same = if clean == dirty { "the same result" } else { "another result" };
-        let left = if zeros.iter().all(|x| *x == 0.0) { "zero" } else { "not zero" };
-        println!("oracle: {name} of length 0 {empty}; fast, with scratch one short, {answer} with the buffer {held}; dirty scratch gives {same}; scratch is left {left}");
-    }
-}
-
 fn main() {
-    behaviour();
+    behaviour::show();
     let mut worst = 0.0f64;
     let mut compared = 0;
     let mut compare = |x: &[f64], y: &[f64], len: usize| {

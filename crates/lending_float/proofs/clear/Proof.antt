@@ -5,7 +5,6 @@ use mathlib.Core.Path.{_≡_, refl}
 use native.Mathlib.Omega.{arith}
 use lib.ListN.{length, length-set}
 use Rattle.ring.specs.Part.{cleared}
-use Rattle.floats.specs.Arithmetic.{floatZero}
 use Rattle.lending.proofs.Stores.{clear-more}
 use Rattle.lending_float.proofs.clear.Statement.{statement}
 use Rattle.lending_float.proofs.clear.Tie as tie

@@ -1,31 +1,33 @@
 -- `mdct_answers::block_answer` meets its contract: each return rewrites the answer by the tests that led there. Assumes nothing.
 use mathlib.Core.Bool.{not}
 use mathlib.Core.Path.{_≡_, sym, _∙_}
+use native.Mathlib.Omega.{arith}
 use borrow.Author.Needs.{needs}
 use denote.Ref.{now}
 use Rattle.answers.specs.Refuse.{refuse}
 use Rattle.answers.specs.declared.Answer.the-variants.{Done}
 use Rattle.answers.specs.declared.Refusal.the-variants.{Window}
 use Rattle.sums.proofs.Sizes.{allowed-small}
+use Rattle.lending.proofs.Lengths.{fit-block}
 use Rattle.lending.proofs.Tests.{passed}
 use Rattle.mdct_answers.specs.Searched.{blockAnswer}
-use Rattle.mdct_answers.proofs.Accepted.{window-fits, window-sound}
+use Rattle.mdct_answers.proofs.Accepted.{window-sound}
 use Rattle.mdct_answers.proofs.block_answer.Statement.{statement}
 use Rattle.mdct_answers.proofs.block_answer.Tie as tie
 
 returns : tie.Need-returns
 returns c = simp (← c .before .allowed-size .ensures, c .if1 .taken)
 
-block-lengths-requires : tie.Need-block-lengths-requires
-block-lengths-requires c κs =
-    (c .before .before .before .before .before .before .pre, allowed-small _ _ (passed (c .before .allowed-size .ensures) (c .if1 .left)))
+block-fits-requires : tie.Need-block-fits-requires
+block-fits-requires c κs =
+    (omega arith, allowed-small _ _ (passed (c .before .allowed-size .ensures) (c .if1 .left)))
 
 returns-2 : tie.Need-returns-2
 returns-2 c =
     simp (
       ← c .before .before .before .allowed-size .ensures,
       c .before .before .if1 .left,
-      ← c .before .block-lengths .ensures,
+      ← c .before .block-fits .ensures,
       c .if2 .taken,
     )
 
@@ -34,7 +36,7 @@ returns-3 c =
     simp (
       ← c .before .before .before .before .before .allowed-size .ensures,
       c .before .before .before .before .if1 .left,
-      ← c .before .before .before .block-lengths .ensures,
+      ← c .before .before .before .block-fits .ensures,
       c .before .before .if2 .left,
       ← c .before .block-sound .ensures,
       c .if3 .taken,
@@ -45,8 +47,7 @@ accepted-requires c κs =
     let sized = c .before .before .before .before in
     let fitted = c .before .before in
     let a = sized .before .before .before .before .before .before .args in (
-      window-fits (a .parts) (a .n) (now (a .a)) (now (a .b)) (now (a .c)) (now (a .window)) (a .scratch)
-          (passed (fitted .before .block-lengths .ensures) (fitted .if2 .left)) .0,
+      fit-block (a .parts) (a .n) _ _ _ _ (a .scratch) (passed (fitted .before .block-fits .ensures) (fitted .if2 .left)) .3,
       passed (sized .before .allowed-size .ensures) (sized .if1 .left),
       window-sound (a .parts) (a .n) (now (a .a)) (now (a .b)) (now (a .c)) (now (a .window)) (a .scratch) (a .added)
           (passed (c .before .block-sound .ensures) (c .if3 .left)),
@@ -65,7 +66,7 @@ module _ (c : tie.After-accepted) where
       simp (
         ← c .before .before .before .before .before .before .allowed-size .ensures,
         c .before .before .before .before .before .if1 .left,
-        ← c .before .before .before .before .block-lengths .ensures,
+        ← c .before .before .before .before .block-fits .ensures,
         c .before .before .before .if2 .left,
         ← c .before .before .block-sound .ensures,
         c .before .if3 .left,
@@ -86,7 +87,7 @@ block-answer-spec =
     (tie.spec
     (λ c κs. search needs)
     returns
-    block-lengths-requires
+    block-fits-requires
     returns-2
     (λ c κs. search needs)
     returns-3

@@ -8,11 +8,11 @@ use Rattle.mdct_curve.proofs.blocks.Statement.{statement}
 use Rattle.mdct_curve.proofs.blocks.Tie as tie
 
 abbrev Inv-loop : tie.InvT-loop
-Inv-loop mdct imdct zeroed n curve following₀ read₀ before₀ coefficients₀ sum₀ next₀ scratch₀ tally₀ from₀ following read before coefficients sum next scratch tally from =
+Inv-loop mdct imdct n curve following₀ read₀ before₀ coefficients₀ sum₀ next₀ scratch₀ tally₀ from₀ following read before coefficients sum next scratch tally from =
     (length following ≡ length following₀) × (length read ≡ length read₀) × (length before ≡ length before₀) × (length coefficients ≡ length coefficients₀) × (length sum ≡ length sum₀) × (length next ≡ length next₀) × (length scratch ≡ length scratch₀) × (from ≤ length curve)
 
 abbrev μ-loop : tie.MeasureT-loop
-μ-loop mdct imdct zeroed n curve following₀ read₀ before₀ coefficients₀ sum₀ next₀ scratch₀ tally₀ from₀ following read before coefficients sum next scratch tally from = length curve - from
+μ-loop mdct imdct n curve following₀ read₀ before₀ coefficients₀ sum₀ next₀ scratch₀ tally₀ from₀ following read before coefficients sum next scratch tally from = length curve - from
 
 loop-less : tie.Need-loop-less Inv-loop μ-loop
 loop-less c =

@@ -6,7 +6,7 @@ use Rattle.mdct_curve.proofs.blocks_of.Tie as tie
 
 same-length : tie.Need-same-length
 same-length c =
-    let filled = c .before .before .before .before .before .before .before .before .before .before .before .before .before .before .before .before .before .before .before .before .before .before .before .before .before .before .before .before .before .before in
+    let filled = c .before .before .before .before .before .before .before .before .before .before .before .before .before .before .before .before .before .before .before .before .before .before .before .before .before .before .before .before .before in
     omega (arith, filled .segments .kept)
 
 pub blocks-of-spec : {M : Type 1} → statement M
@@ -16,7 +16,6 @@ blocks-of-spec =
     (λ c κs. omega arith)
     (λ c κs. omega arith)
     (λ c. omega arith)
-    (λ c κs. omega arith)
     (λ c κs. omega arith)
     same-length
     (λ c. omega arith)

@@ -6,7 +6,7 @@ use denote.Ref.{now}
 use borrow.Author.Count.{below-more}
 use Rattle.sums.proofs.Sizes.{allowed-even}
 use Rattle.sums.specs.Residue.{p}
-use Rattle.window_residue.proofs.Rules.{squares, power-fails, power-all}
+use Rattle.window_residue.proofs.Rules.{squares, share-left, share-below, power-fails, power-all}
 use Rattle.window_residue.proofs.unit_power.Statement.{statement}
 use Rattle.window_residue.proofs.unit_power.Tie as tie
 
@@ -16,24 +16,25 @@ Inv-loop window n share quarter i₀ i = ((k : ℕ) → k < i → squares n wind
 abbrev μ-loop : tie.MeasureT-loop
 μ-loop window n share quarter i₀ i = quarter - i
 
-power-requires : tie.Need-power-requires Inv-loop μ-loop
-power-requires c κs =
+power-less-requires : tie.Need-power-less-requires Inv-loop μ-loop
+power-less-requires c κs =
     let start = c .before .before .before .before .before in
-    (start .pre .2 .below _ (omega arith), start .pre .2 .below _ (omega arith))
+    (start .pre .2 .below _ (omega arith), start .pre .2 .below _ (omega arith), share-below (start .args .n) (start .args .share) (start .pre .4))
 
 returns : tie.Need-returns Inv-loop μ-loop
 returns c =
     let start = c .before .before .before .before .before .before .before in
     let loop = c .before .before .before .before .before .loop in
-    power-fails (start .args .n) (start .args .share) (now (start .args .window)) (start .pre .1) (start .pre .3) (start .pre .4) (loop .i) (c .before .power .result)
+    power-fails (start .args .n) (start .args .share) (now (start .args .window)) (start .pre .1) (start .pre .3) (start .pre .4) (loop .i) (c .before .power-less .result)
     (omega arith)
-    (c .before .power .ensures)
+    (c .before .power-less .ensures)
     (c .if1 .taken)
 
 loop-again : tie.Need-loop-again Inv-loop μ-loop
 loop-again c =
+    let start = c .before .before .before .before .before .before .before in
     let loop = c .before .before .before .before .before .loop in
-    (below-more _ _ (loop .inv .0) (sym (c .before .power .ensures) ∙ c .if1 .left), omega arith, refl)
+    (below-more _ _ (loop .inv .0) (share-left (start .args .n) (start .args .share) (start .pre .4) _ (sym (c .before .power-less .ensures) ∙ c .if1 .left)), omega arith, refl)
 
 returns-2 : tie.Need-returns-2 Inv-loop μ-loop
 returns-2 c =
@@ -54,7 +55,7 @@ unit-power-spec =
     (λ c. omega arith)
     (λ c. omega arith)
     (λ c. omega arith)
-    power-requires
+    power-less-requires
     returns
     (λ c. omega arith)
     (λ c. omega arith)

@@ -1,13 +1,14 @@
 -- `figures::figure::d` meets its contract: its entries are residues, and the sum is a figure of the one list. Assumes nothing.
 use mathlib.Core.Path.{refl, _∙_}
 use borrow.Author.Needs.{needs}
-use Rattle.sums.specs.Bad.{firstBad, soundEntries}
+use Rattle.ring.specs.Finite.{firstPlace}
+use Rattle.sums.specs.Bad.{soundEntries}
 use Rattle.figures.proofs.Table.{ready, figure-is}
 use Rattle.figures.proofs.figure.d.Statement.{statement}
 use Rattle.figures.proofs.figure.d.Tie as tie
 
 dct2-requires : tie.Need-dct2-requires
-unfolding soundEntries firstBad
+unfolding soundEntries firstPlace
 dct2-requires c κs = ready 4 512 (search) _ _ tt refl refl
 
 returns : tie.Need-returns

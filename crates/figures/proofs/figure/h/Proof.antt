@@ -2,14 +2,15 @@
 -- Assumes nothing.
 use mathlib.Core.Path.{refl, _∙_, ap}
 use borrow.Author.Needs.{needs}
-use Rattle.sums.specs.Bad.{firstBad, soundEntries}
+use Rattle.ring.specs.Finite.{firstPlace}
+use Rattle.sums.specs.Bad.{soundEntries}
 use Rattle.sums.specs.Transform.{dct3Sum}
 use Rattle.figures.proofs.Table.{ready, ready-after, after-dct2, figure-is}
 use Rattle.figures.proofs.figure.h.Statement.{statement}
 use Rattle.figures.proofs.figure.h.Tie as tie
 
 dct2-requires : tie.Need-dct2-requires
-unfolding soundEntries firstBad
+unfolding soundEntries firstPlace
 dct2-requires c κs = ready 4 512 (search) _ _ tt refl refl
 
 dct3-requires : tie.Need-dct3-requires

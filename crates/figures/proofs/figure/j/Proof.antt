@@ -2,14 +2,15 @@
 -- Assumes nothing.
 use mathlib.Core.Path.{refl, _∙_, ap}
 use borrow.Author.Needs.{needs}
-use Rattle.sums.specs.Bad.{firstBad, soundEntries}
+use Rattle.ring.specs.Finite.{firstPlace}
+use Rattle.sums.specs.Bad.{soundEntries}
 use Rattle.sums.specs.Transform.{dct4Sum}
 use Rattle.figures.proofs.Table.{ready, ready-after, after-dct4, figure-is}
 use Rattle.figures.proofs.figure.j.Statement.{statement}
 use Rattle.figures.proofs.figure.j.Tie as tie
 
 dct4-requires : tie.Need-dct4-requires
-unfolding soundEntries firstBad
+unfolding soundEntries firstPlace
 dct4-requires c κs = ready 8 512 (search) _ _ tt refl refl
 
 dct4-requires-2 : tie.Need-dct4-requires-2

@@ -9,7 +9,8 @@ use Rattle.mdct_float.proofs.calls.imdct_fast.Tie as tie
 imdct-requires : tie.Need-imdct-requires
 imdct-requires c κs =
     let told = c .before .before .before in
-    fast-block _ _ _ _ _ _ _ _ (sym (told .before .before .fast-block-answer .ensures) ∙ told .enum-told .given .1)
+    let passed = fast-block _ _ _ _ _ _ _ _ (sym (told .before .before .fast-block-answer .ensures) ∙ told .enum-told .given .1) in
+    record { size = passed .size; cosines-length = omega arith; sines-length = omega arith; block = omega arith }
 
 returns : tie.Need-returns
 returns c =

@@ -3,14 +3,13 @@ use mathlib.Core.Path.{refl, sym, _∙_}
 use native.Mathlib.Omega.{arith}
 use Rattle.lending.proofs.Accepted.{spread-of-done, spread-of-refused}
 use Rattle.lending_float.proofs.Accepted.{naive-block}
-use Rattle.mdct_float.proofs.Unneeded.{naive-unneeded}
 use Rattle.mdct_float.proofs.calls.imdct_naive.Statement.{statement}
 use Rattle.mdct_float.proofs.calls.imdct_naive.Tie as tie
 
 imdct-requires : tie.Need-imdct-requires
 imdct-requires c κs =
     let told = c .before .before in
-    naive-unneeded (naive-block _ _ _ _ _ _ _ (sym (told .before .before .naive-block-answer .ensures) ∙ told .enum-told .given .1))
+    omega (arith, naive-block _ _ _ _ _ _ _ (sym (told .before .before .naive-block-answer .ensures) ∙ told .enum-told .given .1))
 
 returns : tie.Need-returns
 returns c =

@@ -3,14 +3,13 @@ use mathlib.Core.Path.{refl, sym, _∙_}
 use native.Mathlib.Omega.{arith}
 use Rattle.lending.proofs.Accepted.{outcome-of-done, outcome-of-refused}
 use Rattle.lending_float.proofs.Accepted.{naive-block}
-use Rattle.mdct_float.proofs.Unneeded.{naive-unneeded}
 use Rattle.mdct_float.proofs.calls.mdct_naive.Statement.{statement}
 use Rattle.mdct_float.proofs.calls.mdct_naive.Tie as tie
 
 mdct-requires : tie.Need-mdct-requires
 mdct-requires c κs =
     let told = c .before in
-    naive-unneeded (naive-block _ _ _ _ _ _ _ (sym (told .before .before .naive-block-answer .ensures) ∙ told .enum-told .given .1))
+    omega (arith, naive-block _ _ _ _ _ _ _ (sym (told .before .before .naive-block-answer .ensures) ∙ told .enum-told .given .1))
 
 returns : tie.Need-returns
 returns c =

@@ -20,9 +20,10 @@ loop-holds c = added-none _ _ _ _ _ _ _ _
 loop-again : tie.Need-loop-again Inv-loop μ-loop
 loop-again c =
     let summed = c .before .before in
-    let loop = summed .before .before in
+    let begun = summed .before in
+    let loop = begun .before .before in
     let start = loop .before .before .before .before .before in
-    added-more (start .pre) (loop .loop .inv) (omega arith) (summed .plain-sum .ensures)
+    added-more (start .pre) (loop .loop .inv) (omega arith) (begun .zero .ensures) (summed .angle-sum .ensures)
 
 returns : tie.Need-returns Inv-loop μ-loop
 unfolding naiveImdctFirst
@@ -35,6 +36,7 @@ add-first-spec =
     Inv-loop
     μ-loop
     loop-holds
+    (λ c κs. omega arith)
     (λ c. omega arith)
     (λ c. omega arith)
     (λ c. omega arith)

@@ -9,7 +9,7 @@ use Rattle.algorithms.specs.Lists.{choose}
 use Rattle.algorithms.specs.Block.{mirrored, naiveImdctSecond}
 use Rattle.algorithms.proofs.Lists.{choose-below}
 use Rattle.floats.specs.Arithmetic.{floatOps}
-use Rattle.mdct_naive_float.specs.Sums.{plainSum}
+use Rattle.naive_float.specs.AngleSums.{angleSum}
 use Rattle.mdct_naive_float.proofs.Added.{Added, added-none, added-more, added-all}
 use Rattle.mdct_naive_float.proofs.mdct_naive.add_second.Statement.{statement}
 use Rattle.mdct_naive_float.proofs.mdct_naive.add_second.Tie as tie
@@ -29,25 +29,26 @@ abbrev μ-loop : tie.MeasureT-loop
 loop-holds : tie.Need-loop-holds Inv-loop μ-loop
 loop-holds c = added-none _ _ _ _ _ _ _ _
 
-sub-plain-sum-2 : tie.Need-sub-plain-sum-2 Inv-loop μ-loop
-sub-plain-sum-2 c = ⊎-elim (λ w. omega arith) (λ w. omega arith) (c .before .if1 .came)
+sub-angle-sum-2 : tie.Need-sub-angle-sum-2 Inv-loop μ-loop
+sub-angle-sum-2 c = ⊎-elim (λ w. omega arith) (λ w. omega arith) (c .before .before .if1 .came)
 
-mul-plain-sum-2 : tie.Need-mul-plain-sum-2 Inv-loop μ-loop
-mul-plain-sum-2 c = ⊎-elim (λ w. omega arith) (λ w. omega arith) (c .before .if1 .came)
+mul-angle-sum-2 : tie.Need-mul-angle-sum-2 Inv-loop μ-loop
+mul-angle-sum-2 c = ⊎-elim (λ w. omega arith) (λ w. omega arith) (c .before .before .if1 .came)
 
-sub-plain-sum-4 : tie.Need-sub-plain-sum-4 Inv-loop μ-loop
-sub-plain-sum-4 c = ⊎-elim (λ w. omega arith) (λ w. omega arith) (c .before .if1 .came)
+sub-angle-sum-4 : tie.Need-sub-angle-sum-4 Inv-loop μ-loop
+sub-angle-sum-4 c = ⊎-elim (λ w. omega arith) (λ w. omega arith) (c .before .before .if1 .came)
 
 loop-again : tie.Need-loop-again Inv-loop μ-loop
 loop-again c =
     let summed = c .before .before in
-    let joined = summed .before .before in
+    let begun = summed .before .before in
+    let joined = begun .before in
     let loop = joined .before .before in
     let start = loop .before .before .before .before .before in
     let n = start .args .n in
-    added-more (start .pre) (loop .loop .inv) (omega arith)
-    (summed .plain-sum .ensures
-    ∙ ap (λ (m : ℕ). plainSum (start .args .table .now) (start .args .input .now) (2 * n + n / 2 - 1 - m) (n - 1 - 2 * m))
+    added-more (start .pre) (loop .loop .inv) (omega arith) (begun .zero .ensures)
+    (summed .angle-sum .ensures
+    ∙ ap (λ (m : ℕ). angleSum (start .args .table .now) (start .args .input .now) (begun .zero .result) (2 * n + n / 2 - 1 - m) (n - 1 - 2 * m))
     (mirrored-is n (loop .loop .k) (joined .if1 .mirrored)
     (λ low. ⊎-elim (λ w. w .1) (λ w. omega arith) (joined .if1 .came)) (λ high. ⊎-elim (λ w. omega arith) (λ w. w .1) (joined .if1 .came))))
 
@@ -64,13 +65,14 @@ add-second-spec =
     loop-holds
     (λ c. omega arith)
     (λ c. omega arith)
+    (λ c κs. omega arith)
     (λ c. omega arith)
     (λ c. omega arith)
     (λ c. omega arith)
-    sub-plain-sum-2
+    sub-angle-sum-2
     (λ c. omega arith)
-    mul-plain-sum-2
-    sub-plain-sum-4
+    mul-angle-sum-2
+    sub-angle-sum-4
     (λ c κs. omega arith)
     (λ c. omega arith)
     (λ c. omega arith)

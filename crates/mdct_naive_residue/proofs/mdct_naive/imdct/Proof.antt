@@ -1,7 +1,6 @@
 -- `mdct_naive_residue::mdct_naive::imdct` meets its contract: either output, with its sums added under the window, is its half of the defining sum. Assumes nothing.
-use Prim.Native.Nat.{_*_}
 use native.Mathlib.Omega.{arith}
-use Rattle.mdct_naive_residue.proofs.Accepted.{block-doubled, unit-small, segment-ready}
+use Rattle.mdct_naive_residue.proofs.Accepted.{block-doubled, halves, unit-small, segment-ready}
 use Rattle.mdct_naive_residue.proofs.Outputs.{imdct-front, imdct-back}
 use Rattle.mdct_naive_residue.proofs.mdct_naive.imdct.Statement.{statement}
 use Rattle.mdct_naive_residue.proofs.mdct_naive.imdct.Tie as tie
@@ -13,15 +12,15 @@ scatter-requires : tie.Need-scatter-requires
 scatter-requires c κs =
     let unit = c .before .before .before in
     let start = unit .before .before .before .before .before .before in
-    segment-ready (start .pre .block) (record { rule = unit .before .powers .ensures; each = unit .unit .ensures }) 0 (start .args .n)
-    (omega arith) (omega arith) (omega arith) (start .pre .input-residues) (start .pre .block .a-length) (start .pre .first-residues) (start .pre .block .b-length)
+    segment-ready (start .pre .block) (record { rule = unit .before .powers .ensures; each = unit .unit .ensures }) (omega arith)
+    (search (halves (start .pre .block))) (start .pre .input-residues) (omega arith) (search (start .pre)) (omega arith)
 
 scatter-requires-2 : tie.Need-scatter-requires-2
 scatter-requires-2 c κs =
     let unit = c .before .before .before .before .before .before .before .before .before in
     let start = unit .before .before .before .before .before .before in
-    segment-ready (start .pre .block) (record { rule = unit .before .powers .ensures; each = unit .unit .ensures }) (start .args .n) (2 * start .args .n)
-    (omega arith) (omega arith) (omega arith) (start .pre .input-residues) (start .pre .block .a-length) (start .pre .second-residues) (start .pre .block .c-length)
+    segment-ready (start .pre .block) (record { rule = unit .before .powers .ensures; each = unit .unit .ensures }) (omega arith)
+    (search (halves (start .pre .block))) (start .pre .input-residues) (omega arith) (search (start .pre)) (omega arith)
 
 returns : tie.Need-returns
 returns c =

@@ -1,7 +1,6 @@
 -- `mdct_naive_residue::mdct_naive::mdct` meets its contract: the zeroed output, with the sums of both segments added, is the defining sum. Assumes nothing.
-use Prim.Native.Nat.{_*_}
 use native.Mathlib.Omega.{arith}
-use Rattle.mdct_naive_residue.proofs.Accepted.{block-doubled, unit-small, segment-ready, zeroed-residues}
+use Rattle.mdct_naive_residue.proofs.Accepted.{block-doubled, halves, unit-small, segment-ready, zeroed-residues}
 use Rattle.mdct_naive_residue.proofs.Segments.{gathered-residues}
 use Rattle.mdct_naive_residue.proofs.Outputs.{mdct-is}
 use Rattle.mdct_naive_residue.proofs.mdct_naive.mdct.Statement.{statement}
@@ -15,8 +14,8 @@ gather-requires c κs =
     let unit = c .before .before .before in
     let clear = unit .before .before .before .before in
     let start = clear .before .before .before .before .before .before in
-    segment-ready (start .pre .block) (record { rule = unit .before .powers .ensures; each = unit .unit .ensures }) 0 (start .args .n)
-    (omega arith) (omega arith) (omega arith) (start .pre .first-residues) (start .pre .block .a-length)
+    segment-ready (start .pre .block) (record { rule = unit .before .powers .ensures; each = unit .unit .ensures }) (omega arith)
+    (search (halves (start .pre .block))) (search (start .pre)) (omega arith)
     (zeroed-residues _ _ (start .pre .block .c-length) (clear .clear .ensures)) (omega arith)
 
 gather-requires-2 : tie.Need-gather-requires-2
@@ -24,8 +23,8 @@ gather-requires-2 c κs =
     let front = c .before .before .before .before .before in
     let unit = front .before .before .before .before in
     let start = unit .before .before .before .before .before .before .before .before .before .before in
-    segment-ready (start .pre .block) (record { rule = unit .before .powers .ensures; each = unit .unit .ensures }) (start .args .n) (2 * start .args .n)
-    (omega arith) (omega arith) (omega arith) (start .pre .second-residues) (start .pre .block .b-length)
+    segment-ready (start .pre .block) (record { rule = unit .before .powers .ensures; each = unit .unit .ensures }) (omega arith)
+    (search (halves (start .pre .block))) (search (start .pre)) (omega arith)
     (rw (front .gather .ensures) (gathered-residues _ _ _ _ _ _)) (omega arith)
 
 returns : tie.Need-returns

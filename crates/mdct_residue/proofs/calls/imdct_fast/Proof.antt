@@ -11,7 +11,7 @@ imdct-requires : tie.Need-imdct-requires
 imdct-requires c κs =
     let told = c .before .before .before in
     let a = told .before .before .before .before .before .before .before .before .before .before .args in
-    imdct-accepted 2 (a .n) (now (a .input)) (now (a .first)) (now (a .second)) (now (a .window)) _ (sym (told .before .before .imdct-answer .ensures) ∙ told .enum-told .given .1)
+    search (imdct-accepted _ _ (now (a .input)) (now (a .first)) (now (a .second)) (now (a .window)) _ (sym (told .before .before .imdct-answer .ensures) ∙ told .enum-told .given .1))
 
 returns : tie.Need-returns
 returns c =

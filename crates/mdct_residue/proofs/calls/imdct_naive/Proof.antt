@@ -4,7 +4,7 @@ use native.Mathlib.Omega.{arith}
 use borrow.Author.Needs.{needs}
 use denote.Ref.{now}
 use Rattle.mdct_answers.proofs.Accepted.{imdct-accepted, imdct-done, imdct-refused}
-use Rattle.mdct_residue.proofs.Unneeded.{imdct-unneeded, none-cleared}
+use Rattle.mdct_residue.proofs.Unneeded.{none-needed, none-cleared}
 use Rattle.mdct_residue.proofs.calls.imdct_naive.Statement.{statement}
 use Rattle.mdct_residue.proofs.calls.imdct_naive.Tie as tie
 
@@ -12,8 +12,14 @@ imdct-requires : tie.Need-imdct-requires
 imdct-requires c κs =
     let told = c .before .before in
     let a = told .before .before .before .before .before .before .before .before .before .before .args in
-    imdct-unneeded
-    (imdct-accepted 0 (a .n) (now (a .input)) (now (a .first)) (now (a .second)) (now (a .window)) _ (sym (told .before .before .imdct-answer .ensures) ∙ told .enum-told .given .1))
+    search (none-needed, imdct-accepted _ _ (now (a .input)) (now (a .first)) (now (a .second)) (now (a .window)) _ (sym (told .before .before .imdct-answer .ensures) ∙ told .enum-told .given .1))
+
+-- refused only where that is promised
+returns-2 : tie.Need-returns-2
+returns-2 c =
+    let asked = c .before .before in
+    let a = asked .before .before .before .before .before .before .before .before .args in
+    imdct-refused 0 (a .n) (now (a .input)) (now (a .first)) (now (a .second)) (now (a .window)) (now (a .scratch)) (asked .imdct-answer .ensures) _ (c .enum-told2 .given .1)
 
 returns : tie.Need-returns
 returns c =
@@ -26,12 +32,6 @@ returns c =
     (done .imdct .ensures .0)
     (done .imdct .ensures .1)
     (none-cleared (a .n) (now (a .scratch)))
-
-returns-2 : tie.Need-returns-2
-returns-2 c =
-    let asked = c .before .before in
-    let a = asked .before .before .before .before .before .before .before .before .args in
-    imdct-refused 0 (a .n) (now (a .input)) (now (a .first)) (now (a .second)) (now (a .window)) (now (a .scratch)) (asked .imdct-answer .ensures) _ (c .enum-told2 .given .1)
 
 pub imdct-naive-spec : {M : Type 1} → statement M
 imdct-naive-spec =

@@ -11,7 +11,7 @@ mdct-requires : tie.Need-mdct-requires
 mdct-requires c κs =
     let told = c .before .before in
     let a = told .before .before .before .before .before .before .before .before .before .args in
-    mdct-accepted 2 (a .n) (now (a .first)) (now (a .second)) (now (a .output)) (now (a .window)) _ (sym (told .before .before .mdct-answer .ensures) ∙ told .enum-told .given .1)
+    search (mdct-accepted _ _ (now (a .first)) (now (a .second)) (now (a .output)) (now (a .window)) _ (sym (told .before .before .mdct-answer .ensures) ∙ told .enum-told .given .1))
 
 returns : tie.Need-returns
 returns c =

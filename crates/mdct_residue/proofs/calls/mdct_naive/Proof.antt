@@ -4,7 +4,7 @@ use native.Mathlib.Omega.{arith}
 use borrow.Author.Needs.{needs}
 use denote.Ref.{now}
 use Rattle.mdct_answers.proofs.Accepted.{mdct-accepted, mdct-done, mdct-refused}
-use Rattle.mdct_residue.proofs.Unneeded.{mdct-unneeded, none-cleared}
+use Rattle.mdct_residue.proofs.Unneeded.{none-needed, none-cleared}
 use Rattle.mdct_residue.proofs.calls.mdct_naive.Statement.{statement}
 use Rattle.mdct_residue.proofs.calls.mdct_naive.Tie as tie
 
@@ -12,8 +12,14 @@ mdct-requires : tie.Need-mdct-requires
 mdct-requires c κs =
     let told = c .before in
     let a = told .before .before .before .before .before .before .before .before .before .args in
-    mdct-unneeded
-    (mdct-accepted 0 (a .n) (now (a .first)) (now (a .second)) (now (a .output)) (now (a .window)) _ (sym (told .before .before .mdct-answer .ensures) ∙ told .enum-told .given .1))
+    search (none-needed, mdct-accepted _ _ (now (a .first)) (now (a .second)) (now (a .output)) (now (a .window)) _ (sym (told .before .before .mdct-answer .ensures) ∙ told .enum-told .given .1))
+
+-- refused only where that is promised
+returns-2 : tie.Need-returns-2
+returns-2 c =
+    let asked = c .before .before in
+    let a = asked .before .before .before .before .before .before .before .args in
+    mdct-refused 0 (a .n) (now (a .first)) (now (a .second)) (now (a .output)) (now (a .window)) (now (a .scratch)) (asked .mdct-answer .ensures) _ (c .enum-told2 .given .1)
 
 returns : tie.Need-returns
 returns c =
@@ -25,12 +31,6 @@ returns c =
     (told .enum-told .given .1)
     (done .mdct .ensures)
     (none-cleared (a .n) (now (a .scratch)))
-
-returns-2 : tie.Need-returns-2
-returns-2 c =
-    let asked = c .before .before in
-    let a = asked .before .before .before .before .before .before .before .args in
-    mdct-refused 0 (a .n) (now (a .first)) (now (a .second)) (now (a .output)) (now (a .window)) (now (a .scratch)) (asked .mdct-answer .ensures) _ (c .enum-told2 .given .1)
 
 pub mdct-naive-spec : {M : Type 1} → statement M
 mdct-naive-spec =
