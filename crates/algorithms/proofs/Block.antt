@@ -2,7 +2,7 @@
 -- A place of the table stands for an angle: twice the place and one more, in units of 1/(8N) of a turn, whole turns taken off (cosine-at). It is the angle of the sum; but in
 -- the first half of the second output it is the negative angle, which has the same cosine (mirror). Assumes nothing.
 use mathlib.Core.Path.{_≡_, refl, sym, _∙_, ap, ap₂, subst}
-use mathlib.Core.Bool.{Bool, true, false}
+use mathlib.Core.Bool.{Bool, true, false, cond}
 use mathlib.Core.List.{List, _++_}
 use Prim.Native.Nat.{ℕ, suc, _+_, _*_, _-_, _^_, _%_, _/_, _<_}
 use native.Mathlib.Nat as Nat
@@ -21,10 +21,9 @@ use Rattle.sums.specs.Transform.{sum, entry, mdctSum, imdctSum}
 use Rattle.sums.proofs.Angles.{cos-opposite}
 use Rattle.sums.proofs.Sizes.{allowed-power, allowed-even}
 use Rattle.sums.proofs.Turns.{turn-positive, cos-whole-turns, power-whole}
-use Rattle.algorithms.specs.Lists.{choose}
 use Rattle.algorithms.specs.Block.{cosineAt, naiveMdct, inputSum, naiveImdctFirst, mirrored, naiveImdctSecond}
 use Rattle.algorithms.specs.Residues.{residueOps}
-use Rattle.algorithms.proofs.Lists.{getD-after, choose-below}
+use Rattle.algorithms.proofs.Lists.{getD-after, cond-below}
 use Rattle.algorithms.proofs.Naive.{reduced-sum}
 
 -- the table: entry i is the cosine at (2i + 1)/(8N) of a turn
@@ -32,9 +31,9 @@ abbrev pub blockCosines : ℕ → List ℕ
 blockCosines N = tab (4 * N) (λ i. cosTurn (2 * i + 1) (8 * N))
 
 -- a function of what is chosen
-choose-of : {A B : Type 0} (f : A → B) (t : Bool) (a b : A) → f (choose t a b) ≡ choose t (f a) (f b)
-choose-of f true a b = refl
-choose-of f false a b = refl
+cond-of : {A B : Type 0} (f : A → B) (t : Bool) (a b : A) → f (cond t a b) ≡ cond t (f a) (f b)
+cond-of f true a b = refl
+cond-of f false a b = refl
 
 module _ (N : ℕ) (allowed : T (allowedSize 2 N)) (w : List ℕ) where
   even : N % 2 ≡ 0
@@ -140,7 +139,7 @@ module _ (N : ℕ) (allowed : T (allowedSize 2 N)) (w : List ℕ) where
 
         same : (n : ℕ) → n < N → (k : ℕ) → placed k (mirrored residueOps N (blockCosines N) w n) ≡ cos (angle (N + n) k)
         same n l k =
-            choose-of (placed k) (ltb n (N / 2)) n (N - 1 - n)
-            ∙ choose-below n (N / 2) (placed k n) (placed k (N - 1 - n)) _
+            cond-of (placed k) (ltb n (N / 2)) n (N - 1 - n)
+            ∙ cond-below n (N / 2) (placed k n) (placed k (N - 1 - n)) _
             (λ below. mirror _ _ (suc k) (low n k _ _ (omega arith) (omega arith)))
             (λ above. sym (cos-whole-turns (8 * N) whole _ _ k (high n k _ _ (omega (arith, even)) (omega arith))))

@@ -23,7 +23,7 @@ use Rattle.algorithms.specs.Ops.{Ops}
 use Rattle.algorithms.specs.Fold.{firstScaled, secondScaled, lowFold, highFold, folded, firstSpread, secondSpread, spreadFirst, spreadSecond}
 use Rattle.algorithms.specs.Residues.{residueOps}
 use Rattle.algorithms.proofs.Carried.{is-entry, of-sum, of-difference, of-product, of-negative}
-use Rattle.algorithms.proofs.Lists.{getD-after, choose-below}
+use Rattle.algorithms.proofs.Lists.{getD-after, cond-below}
 
 -- over any arithmetic: the lengths, and the entries of the fold
 module _ {A : Type 0} (O : Ops A) (g : ℕ) (w : List A) where
@@ -108,7 +108,7 @@ module _ (g : ℕ) (L : Length (4 * g)) (w first second : List ℕ) (N : length 
 
     first-spread : (n : ℕ) → n < 2 * g → firstSpread residueOps g w (dct4Sum X) first n ≡ entry whole n
     first-spread n l =
-        choose-below n g _ _ (entry whole n)
+        cond-below n g _ _ (entry whole n)
         (λ low.
         settled n _ (omega arith) (Nat.mod-mod _ p)
         (of-sum (entry first n) _ (sym (residues-front (2 * g) first second N n l)) (of-product (entry (dct4Sum X) (g + n)) (entry w n) refl refl)
@@ -119,7 +119,7 @@ module _ (g : ℕ) (L : Length (4 * g)) (w first second : List ℕ) (N : length 
 
     second-spread : (n : ℕ) → n < 2 * g → secondSpread residueOps g w (dct4Sum X) second n ≡ entry whole (2 * g + n)
     second-spread n l =
-        choose-below n g _ _ (entry whole (2 * g + n))
+        cond-below n g _ _ (entry whole (2 * g + n))
         (λ low.
         less (2 * g + n) _ (entry second n) (omega arith) (residues-after (2 * g) first second N n)
         (imdct-mirror g L w (first ++ second) X M (2 * g + n) _ (omega arith) (omega arith)))

@@ -1,7 +1,7 @@
 -- Type 4 by type 3 over residues, at every length 2m where 4m goes into a quarter turn (dct4-merged, dst4-merged); and so the routines are the defining sums, at every
 -- length up to 1024 (fast-dct4-is, fast-dst4-is). First the entries of the inner inputs. Assumes nothing.
 use mathlib.Core.Path.{_≡_, refl, sym, _∙_, ap, ap₂, subst}
-use mathlib.Core.Bool.{Bool, true, false}
+use mathlib.Core.Bool.{Bool, true, false, cond}
 use mathlib.Core.List.{List}
 use Prim.Native.Nat.{ℕ, zero, suc, _+_, _*_, _-_, _^_, _<_, _≤_}
 use native.Mathlib.Nat as Nat
@@ -22,7 +22,7 @@ use Rattle.sums.proofs.Fourths.{of-dct4, of-dst4}
 use Rattle.sums.proofs.Lengths.{Length, turnAt, type4-length}
 use Rattle.sums.proofs.Outputs.{residues, length-dct4, dct4-residues, length-dst4, dst4-residues}
 use Rattle.algorithms.specs.Four.{lastDoubled, firstDoubled, leftDct4, rightDct4, leftDst4, rightDst4, output, mirroredDct4, mirroredDst4, mergeDct4, mergeDst4, fastDct4, fastDst4}
-use Rattle.algorithms.specs.Lists.{choose, reversed}
+use Rattle.algorithms.specs.Lists.{reversed}
 use Rattle.algorithms.specs.Ops.{Ops, at}
 use Rattle.algorithms.specs.Residues.{residueOps, residueTwiddles}
 use Rattle.algorithms.proofs.Carried.{is-entry, of-double, of-sum, of-difference, of-along, of-across}
@@ -52,10 +52,10 @@ module _ {A : Type 0} (O : Ops A) (m : ℕ) (x : List A) where
   -- the last entry doubled, and what pairs of neighbours give before it
   pub last-doubled : (op : A → A → A) (k : ℕ) → suc k ≡ m → lastDoubled O m x op k ≡ O .double (at O x (2 * m - 1))
   last-doubled op k e =
-      ap (λ (n : ℕ). choose (eqb (suc k) n) (O .double (at O x (2 * m - 1))) (op (at O x (2 * k + 1)) (at O x (2 * k + 2)))) (sym e)
+      ap (λ (n : ℕ). cond (eqb (suc k) n) (O .double (at O x (2 * m - 1))) (op (at O x (2 * k + 1)) (at O x (2 * k + 2)))) (sym e)
       ∙ by (eqb (suc k) (suc k)) (eqb-refl (suc k))
     where
-      by : (b : Bool) → T b → choose b (O .double (at O x (2 * m - 1))) (op (at O x (2 * k + 1)) (at O x (2 * k + 2))) ≡ O .double (at O x (2 * m - 1))
+      by : (b : Bool) → T b → cond b (O .double (at O x (2 * m - 1))) (op (at O x (2 * k + 1)) (at O x (2 * k + 2))) ≡ O .double (at O x (2 * m - 1))
       by true t = refl
       by false t = absurd t
 
@@ -63,7 +63,7 @@ module _ {A : Type 0} (O : Ops A) (m : ℕ) (x : List A) where
   before-last op k l = by (eqb (suc k) m) (eqb→eq (suc k) m)
     where
       by : (b : Bool) → (T b → suc k ≡ m)
-          → choose b (O .double (at O x (2 * m - 1))) (op (at O x (2 * k + 1)) (at O x (2 * k + 2))) ≡ op (at O x (2 * k + 1)) (at O x (2 * k + 2))
+          → cond b (O .double (at O x (2 * m - 1))) (op (at O x (2 * k + 1)) (at O x (2 * k + 2))) ≡ op (at O x (2 * k + 1)) (at O x (2 * k + 2))
       by true e = absurd (Nat.lt-irrefl m (subst (λ (n : ℕ). n < m) (e tt) l))
       by false e = refl
 

@@ -1,8 +1,8 @@
 -- The entries of lists as the algorithms lay them out: backwards (back, reversed), forwards and then backwards (there-, back-, there-back-is), in quarters (quarters-),
--- in groups of four (by-fours), negated by turns (alternated) and by the half that a place is in (choose-below). `quarter` finds the quarter that a place is in.
+-- in groups of four (by-fours), negated by turns (alternated) and by the half that a place is in (cond-below). `quarter` finds the quarter that a place is in.
 -- A place counted from the end is given by an equation, i + suc k ≡ n. Over any type of entry. Assumes nothing.
 use mathlib.Core.Path.{_≡_, refl, sym, _∙_, ap, ap₂, subst}
-use mathlib.Core.Bool.{Bool, true, false, not}
+use mathlib.Core.Bool.{Bool, true, false, not, cond}
 use mathlib.Core.List.{List, _++_}
 use Prim.Native.Nat.{ℕ, suc, _+_, _*_, _-_, _%_, _/_, _<_, _≤_}
 use native.Mathlib.Omega.{arith}
@@ -13,7 +13,7 @@ use lib.Seq.{ext-getD, getD-append-add}
 use Rattle.ring.specs.Finite.{tab}
 use Rattle.ring.proofs.Table.{length-tab, getD-tab}
 use Rattle.algorithms.specs.Ops.{Ops, at}
-use Rattle.algorithms.specs.Lists.{back, reversed, quarters, byFours, pickFour, choose, turned, alternated}
+use Rattle.algorithms.specs.Lists.{back, reversed, quarters, byFours, pickFour, turned, alternated}
 
 -- the quarter of 4n places that i is in, counted as it was laid out
 pub data Quarter (n i : ℕ) : Type 0 where
@@ -32,10 +32,10 @@ quarter n i l =
 
 module _ {A : Type 0} where
   -- a choice between the places below n and those from n on
-  pub choose-below : (i n : ℕ) (a b v : A) → (i < n → a ≡ v) → (n ≤ i → b ≡ v) → choose (ltb i n) a b ≡ v
-  choose-below i n a b v low high = by (ltb i n) refl
+  pub cond-below : (i n : ℕ) (a b v : A) → (i < n → a ≡ v) → (n ≤ i → b ≡ v) → cond (ltb i n) a b ≡ v
+  cond-below i n a b v low high = by (ltb i n) refl
     where
-      by : (t : Bool) → ltb i n ≡ t → choose t a b ≡ v
+      by : (t : Bool) → ltb i n ≡ t → cond t a b ≡ v
       by true e = low (ltb→lt i n (subst T (sym e) tt))
       by false e = high (nltb→le i n (subst (λ (t : Bool). T (not t)) (sym e) tt))
 

@@ -1,7 +1,7 @@
 -- The naive sums over residues are the defining sums: a sum that is reduced after each addition, of terms that are reduced, is the sum reduced once;
 -- an angle is taken modulo a whole turn. Assumes nothing.
 use mathlib.Core.Path.{_≡_, refl, sym, _∙_, ap, ap₂}
-use mathlib.Core.Bool.{Bool, true, false}
+use mathlib.Core.Bool.{Bool, true, false, cond}
 use mathlib.Core.List.{List}
 use Prim.Native.Nat.{ℕ, zero, suc, _+_, _*_, _-_, _%_, _<_}
 use native.Mathlib.Nat as Nat
@@ -19,7 +19,6 @@ use Rattle.sums.specs.Angle.{cosTurn, sinTurn}
 use Rattle.sums.specs.Transform.{sum, entry, dct2Sum, dst2Sum, dct3Sum, dst3Sum}
 use Rattle.sums.proofs.Lengths.{Length, turn-whole}
 use Rattle.sums.proofs.Turns.{cos-remainder, sin-remainder}
-use Rattle.algorithms.specs.Lists.{choose}
 use Rattle.algorithms.specs.Residues.{residueOps, residueTwiddles}
 use Rattle.algorithms.specs.Naive.{naiveDct2, naiveDst2, naiveDct3, naiveDst3, lastHalved, cosOfUnits, sinOfUnits}
 use Rattle.algorithms.proofs.Thirds.{last-sine}
@@ -82,12 +81,12 @@ module _ (x : List ℕ) (L : Length (length x)) where
 
   -- what half of the last entry adds, before it is reduced
   abbrev halvedAt : ℕ → ℕ
-  halvedAt i = choose (eqb (suc i) (length x)) (entry x i * half) (entry x i)
+  halvedAt i = cond (eqb (suc i) (length x)) (entry x i * half) (entry x i)
 
   halved-term : (i s : ℕ) → lastHalved residueOps residueTwiddles x i * s % p ≡ halvedAt i * s % p
   halved-term i s = by (eqb (suc i) n)
     where
-      by : (b : Bool) → choose b (entry x i * half % p) (entry x i) * s % p ≡ choose b (entry x i * half) (entry x i) * s % p
+      by : (b : Bool) → cond b (entry x i * half % p) (entry x i) * s % p ≡ cond b (entry x i * half) (entry x i) * s % p
       by true = mod-mul (entry x i * half) s p
       by false = refl
 
@@ -105,11 +104,11 @@ module _ (x : List ℕ) (L : Length (length x)) where
 
       before : (i : ℕ) → i < m → halvedAt i ≡ entry x i
       before i l =
-          ap (λ (b : Bool). choose b (entry x i * half) (entry x i))
+          ap (λ (b : Bool). cond b (entry x i * half) (entry x i))
           (sym (false-is (eqb (suc i) n) (λ t. let here : suc i ≡ n = eqb→eq (suc i) n t in Nat.lt-irrefl 0 (omega (arith, last)))))
 
       at-last : halvedAt m ≡ entry x m * half
-      at-last = ap (λ (b : Bool). choose b (entry x m * half) (entry x m)) (sym (true-is (eqb (suc m) n) (eq→eqb (suc m) n last)))
+      at-last = ap (λ (b : Bool). cond b (entry x m * half) (entry x m)) (sym (true-is (eqb (suc m) n) (eq→eqb (suc m) n last)))
 
   dst3-is : naiveDst3 residueOps residueTwiddles x ≡ dst3Sum x
   unfolding naiveDst3 dst3Sum

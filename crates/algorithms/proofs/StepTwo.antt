@@ -2,7 +2,7 @@
 -- (cos-input-is, sin-input-is). The merge fills its output from the front: three stores before the loop (merged-start), four in each turn (merged-more) and
 -- one after it (merged-end). What is stored is a variable, with an equation that says what it is. Assumes nothing.
 use mathlib.Core.Path.{_≡_, refl, sym, _∙_, ap, ap₂}
-use mathlib.Core.Bool.{Bool}
+use mathlib.Core.Bool.{Bool, cond}
 use mathlib.Core.List.{List, _++_, append-assoc}
 use Prim.Native.Nat.{ℕ, zero, suc, _+_, _*_, _-_, _<_, _≤_}
 use native.Mathlib.Nat as Nat
@@ -13,7 +13,7 @@ use lib.ListN.{length, set}
 use Rattle.ring.specs.Finite.{tab}
 use Rattle.ring.proofs.Filled.{Filled, filled-none, filled-more, filled-all}
 use Rattle.algorithms.specs.Ops.{Ops, Twiddles, at}
-use Rattle.algorithms.specs.Lists.{back, quarters, choose, turned}
+use Rattle.algorithms.specs.Lists.{back, quarters, turned}
 use Rattle.algorithms.specs.Split.{along, across, lower, upper, halfLow, halfHigh, inputDct2, twiddleCos, twiddleSin, cosInput, sinInput, inputDct4Even, inputDct4Odd, splitTwo, sinOutput, afterEven, beforeEven, mergedTwo, mergeTwo}
 use Rattle.algorithms.proofs.Lists.{by-fours-zero, by-fours-one, by-fours-two, by-fours-three}
 
@@ -55,14 +55,14 @@ module _ {A : Type 0} (O : Ops A) (q : ℕ) (h c s : List A) where
   before-one zero some below = absurd (Nat.not-suc-le-zero some)
   before-one (suc n) some below =
       let inside = ne-eqb (suc n) q (λ e. omega arith) in
-      merged-three n ∙ ap (λ (t : Bool). choose t (O .neg (at O s 0)) (O .add (at O c (suc n)) (sinOutput O q h c s (suc n)))) inside
+      merged-three n ∙ ap (λ (t : Bool). cond t (O .neg (at O s 0)) (O .add (at O c (suc n)) (sinOutput O q h c s (suc n)))) inside
 
   last-one : 1 ≤ q → mergedTwo O q h c s (4 * q - 1) ≡ O .neg (at O s 0)
   last-one some =
       let n = q - 1 in
       let all : q ≡ suc n = omega arith in
       ap (λ (m : ℕ). mergedTwo O q h c s (4 * m - 1)) all ∙ merged-three n
-      ∙ ap (λ (t : Bool). choose t (O .neg (at O s 0)) (O .add (at O c (suc n)) (sinOutput O q h c s (suc n)))) (eq-eqb (suc n) q (sym all))
+      ∙ ap (λ (t : Bool). cond t (O .neg (at O s 0)) (O .add (at O c (suc n)) (sinOutput O q h c s (suc n)))) (eq-eqb (suc n) q (sym all))
 
   pub sin-output-is : (i : ℕ) {v w : A} → v ≡ turned O (i + q + 1) w → w ≡ at O s (q - i) → v ≡ sinOutput O q h c s i
   sin-output-is i is entry = is ∙ ap₂ (turned O) (add-one (i + q)) entry

@@ -1,7 +1,7 @@
 -- The step of split radix for DCT-II over residues, at every length 4q that goes into a quarter turn: `dct2-split`.
 -- First the entries of the three inner inputs, as the split over any ring has them; then the four kinds of output. Assumes nothing.
 use mathlib.Core.Path.{_≡_, refl, sym, _∙_, ap, subst}
-use mathlib.Core.Bool.{Bool, true, false}
+use mathlib.Core.Bool.{Bool, true, false, cond}
 use mathlib.Core.List.{List}
 use Prim.Native.Nat.{ℕ, zero, suc, _+_, _*_, _-_, _%_, _<_}
 use native.Mathlib.Nat as Nat
@@ -21,7 +21,6 @@ use Rattle.sums.specs.Transform.{entry, dct2Sum}
 use Rattle.sums.proofs.Constants.{Zp}
 use Rattle.sums.proofs.Lengths.{Length, turnAt}
 use Rattle.sums.proofs.Outputs.{residues, length-dct2, dct2-residues}
-use Rattle.algorithms.specs.Lists.{choose}
 use Rattle.algorithms.specs.Residues.{residueOps, residueTwiddles}
 use Rattle.algorithms.specs.Split.{across, halfLow, halfHigh, lower, upper, cosInput, sinInput, inputDct2, inputDct4Even, inputDct4Odd, sinOutput, afterEven, beforeEven, mergedTwo, mergeTwo}
 use Rattle.algorithms.proofs.Inputs as Inputs
@@ -158,7 +157,7 @@ module _ (q : ℕ) (L : Length (4 * q)) (x : List ℕ) where
     before-entry n l = by (eqb (suc n) q) refl
       where
         by : (b : Bool) → eqb (suc n) q ≡ b
-            → choose b (residueOps .neg (entry (dct2Sum sines) 0))
+            → cond b (residueOps .neg (entry (dct2Sum sines) 0))
             (residueOps .add (entry (dct2Sum cosines) (suc n)) (sinOutput residueOps q (dct2Sum half) (dct2Sum cosines) (dct2Sum sines) (suc n)))
             ≡ entry (dct2Sum x) (4 * n + 3)
         by true b =

@@ -1,12 +1,12 @@
 -- mdct_naive.rs: MDCT and IMDCT of N by their sums, term by term in the Rust's order, N even. The table t holds 4N cosines, entry i at (2i + 1)/(8N) of a turn, and the
 -- window w has 2N entries. The Rust walks its table by an index that loses the table's length where it passes the end. Over residues these are document 01's sums, as
 -- `algorithms.proofs.Block` shows. Assumes nothing.
+use mathlib.Core.Bool.{cond}
 use mathlib.Core.List.{List, _++_}
 use Prim.Native.Nat.{ℕ, _+_, _*_, _-_, _%_, _/_}
 use lib.Dec.{ltb}
 use Rattle.ring.specs.Finite.{sumOf, tab}
 use Rattle.algorithms.specs.Ops.{Ops, at}
-use Rattle.algorithms.specs.Lists.{choose}
 
 module _ {A : Type 0} (O : Ops A) (N : ℕ) (t w : List A) where
   -- the cosine at a place, whole turns taken off
@@ -32,7 +32,7 @@ module _ {A : Type 0} (O : Ops A) (N : ℕ) (t w : List A) where
 
   -- the second output takes the places of a mirrored index for its second half
   abbrev pub mirrored : ℕ → ℕ
-  mirrored k = choose (ltb k (N / 2)) k (N - 1 - k)
+  mirrored k = cond (ltb k (N / 2)) k (N - 1 - k)
 
   unfoldable pub naiveImdctSecond : List A → List A → List A
   naiveImdctSecond input held =

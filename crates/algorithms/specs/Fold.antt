@@ -1,11 +1,11 @@
 -- mdct_via_dct4.rs: what stands before and after the DCT-IV of N = 2g entries, on lists and in the Rust's order of operations. The first segment is a, b, the second
 -- c, d, each of g entries, under a window of 4g. Assumes nothing.
+use mathlib.Core.Bool.{cond}
 use mathlib.Core.List.{List, _++_}
 use Prim.Native.Nat.{ℕ, _+_, _*_, _-_}
 use lib.Dec.{ltb}
 use Rattle.ring.specs.Finite.{tab}
 use Rattle.algorithms.specs.Ops.{Ops, at}
-use Rattle.algorithms.specs.Lists.{choose}
 
 module _ {A : Type 0} (O : Ops A) (g : ℕ) (w : List A) where
   -- the entries under the window
@@ -30,12 +30,12 @@ module _ {A : Type 0} (O : Ops A) (g : ℕ) (w : List A) where
   -- what the DCT-IV d of the input adds to the first output: its second half, then that reversed and taken away
   abbrev pub firstSpread : List A → List A → ℕ → A
   firstSpread d held n =
-      choose (ltb n g) (O .add (at O held n) (O .mul (at O d (g + n)) (at O w n))) (O .sub (at O held n) (O .mul (at O d (3 * g - 1 - n)) (at O w n)))
+      cond (ltb n g) (O .add (at O held n) (O .mul (at O d (g + n)) (at O w n))) (O .sub (at O held n) (O .mul (at O d (3 * g - 1 - n)) (at O w n)))
 
   -- to the second output: its first half reversed, then as it is, both taken away
   abbrev pub secondSpread : List A → List A → ℕ → A
   secondSpread d held n =
-      choose (ltb n g) (O .sub (at O held n) (O .mul (at O d (g - 1 - n)) (at O w (2 * g + n))))
+      cond (ltb n g) (O .sub (at O held n) (O .mul (at O d (g - 1 - n)) (at O w (2 * g + n))))
       (O .sub (at O held n) (O .mul (at O d (n - g)) (at O w (2 * g + n))))
 
   unfoldable pub spreadFirst : List A → List A → List A

@@ -1,17 +1,18 @@
 -- type4_convert_to_type3.rs: DCT-IV and DST-IV of 2m entries by a DCT-III and a DST-III of m, on lists and in the Rust's order of operations. Names follow the
 -- Rust. The twiddle at k is the cosine and the sine at (2k + 1)/(16m) of a turn, as split radix has it at the quarter length m. Assumes nothing.
+use mathlib.Core.Bool.{cond}
 use mathlib.Core.List.{List, _++_}
 use Prim.Native.Nat.{ℕ, zero, suc, _+_, _*_, _-_, _^_}
 use lib.Dec.{eqb}
 use Rattle.ring.specs.Finite.{tab}
 use Rattle.algorithms.specs.Ops.{Ops, Twiddles, at}
-use Rattle.algorithms.specs.Lists.{back, choose}
+use Rattle.algorithms.specs.Lists.{back}
 use Rattle.algorithms.specs.Split.{along, across, twiddleCos, twiddleSin, splitDct3, splitDst3}
 
 module _ {A : Type 0} (O : Ops A) (m : ℕ) (x : List A) where
   -- the last entry doubled, or what the entries 2k + 1 and 2k + 2 give
   abbrev pub lastDoubled : (A → A → A) → ℕ → A
-  lastDoubled op k = choose (eqb (suc k) m) (O .double (at O x (2 * m - 1))) (op (at O x (2 * k + 1)) (at O x (2 * k + 2)))
+  lastDoubled op k = cond (eqb (suc k) m) (O .double (at O x (2 * m - 1))) (op (at O x (2 * k + 1)) (at O x (2 * k + 2)))
 
   -- the first entry doubled, or what the entries 2k − 1 and 2k give
   abbrev pub firstDoubled : (A → A → A) → ℕ → A

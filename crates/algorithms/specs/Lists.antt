@@ -1,5 +1,4 @@
 -- How the algorithms lay entries out: read backwards, in quarters, in groups of four, negated by turns. Over any type of entry. Assumes nothing.
-use mathlib.Core.Bool.{Bool, true, false}
 use mathlib.Core.List.{List, _++_}
 use Prim.Native.Nat.{ℕ, zero, suc, _-_, _%_, _/_}
 use lib.ListN.{length}
@@ -28,11 +27,6 @@ pickFour a b c d (suc (suc (suc r))) n = d n
 -- entry 4n is a n, 4n + 1 is b n, 4n + 2 is c n, 4n + 3 is d n
 unfoldable pub byFours : {A : Type 0} → (ℕ → A) → (ℕ → A) → (ℕ → A) → (ℕ → A) → ℕ → A
 byFours a b c d m = pickFour a b c d (m % 4) (m / 4)
-
--- the first where the test holds, else the second
-abbrev pub choose : {A : Type 0} → Bool → A → A → A
-choose true a b = a
-choose false a b = b
 
 abbrev pub turnedBy : {A : Type 0} → Ops A → ℕ → A → A
 turnedBy O zero v = v

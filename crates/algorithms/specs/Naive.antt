@@ -1,13 +1,13 @@
 -- type2and3_naive.rs: DCT-II, DST-II, DCT-III and DST-III by their sums, term by term in the Rust's order. The Rust walks its table of
 -- 4n twiddles by an index that loses the table's length where it passes the end: an angle is taken modulo a whole turn.
 -- Its stored sines are negated and their products subtracted; here they are added, which has the same bits. Assumes nothing.
+use mathlib.Core.Bool.{cond}
 use mathlib.Core.List.{List}
 use Prim.Native.Nat.{ℕ, suc, _+_, _*_, _-_, _%_}
 use lib.ListN.{length}
 use lib.Dec.{eqb}
 use Rattle.ring.specs.Finite.{sumOf, tab}
 use Rattle.algorithms.specs.Ops.{Ops, Twiddles, at}
-use Rattle.algorithms.specs.Lists.{choose}
 
 module _ {A : Type 0} (O : Ops A) (W : Twiddles A) where
   -- an angle of a units, n entries having a turn of 4n units
@@ -37,7 +37,7 @@ module _ {A : Type 0} (O : Ops A) (W : Twiddles A) where
 
   -- the last entry is halved
   abbrev pub lastHalved : List A → ℕ → A
-  lastHalved x i = choose (eqb (suc i) (length x)) (O .halve (at O x i)) (at O x i)
+  lastHalved x i = cond (eqb (suc i) (length x)) (O .halve (at O x i)) (at O x i)
 
   unfoldable pub naiveDst3 : List A → List A
   naiveDst3 x =

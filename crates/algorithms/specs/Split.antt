@@ -1,11 +1,12 @@
 -- type2and3_splitradix.rs: a transform of 4q entries by one of 2q and two of q, on lists and in the Rust's order of operations.
 -- Names follow the Rust. The twiddle at i is the cosine and the sine at (2i + 1)/(16q) of a turn. Assumes nothing.
+use mathlib.Core.Bool.{cond}
 use mathlib.Core.List.{List, _++_}
 use Prim.Native.Nat.{ℕ, zero, suc, _+_, _*_, _-_, _^_}
 use lib.Dec.{eqb}
 use Rattle.ring.specs.Finite.{tab}
 use Rattle.algorithms.specs.Ops.{Ops, Twiddles, at}
-use Rattle.algorithms.specs.Lists.{back, quarters, byFours, choose, turned, alternated, reversed}
+use Rattle.algorithms.specs.Lists.{back, quarters, byFours, turned, alternated, reversed}
 use Rattle.algorithms.specs.Naive.{naiveDct2, naiveDst2, naiveDct3, naiveDst3}
 
 module _ {A : Type 0} (O : Ops A) where
@@ -43,7 +44,7 @@ module _ {A : Type 0} (O : Ops A) where
     afterEven (suc n) = O .sub (at O c (suc n)) (sinOutput (suc n))
 
     abbrev pub beforeEven : ℕ → A
-    beforeEven n = choose (eqb (suc n) q) (O .neg (at O s 0)) (O .add (at O c (suc n)) (sinOutput (suc n)))
+    beforeEven n = cond (eqb (suc n) q) (O .neg (at O s 0)) (O .add (at O c (suc n)) (sinOutput (suc n)))
 
     abbrev pub mergedTwo : ℕ → A
     mergedTwo = byFours (λ n. at O h (2 * n)) afterEven (λ n. at O h (2 * n + 1)) beforeEven

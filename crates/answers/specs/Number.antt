@@ -1,9 +1,7 @@
--- Document 01, "Numbers for no": the number of each refusal, and of each answer. Assumes nothing.
+-- Document 01, "Numbers for no": the number of each refusal. Assumes nothing.
 use Prim.Native.Nat.{ℕ}
 use Rattle.answers.specs.declared.Refusal.{Refusal}
 use Rattle.answers.specs.declared.Refusal.the-variants.{Size, Length, Residue, Window, BrokenTray, OtherUnit, NumberZero, NotHeld, AlreadyHeld, Full, NothingHeld, BeyondCurve}
-use Rattle.answers.specs.declared.Answer.{Answer}
-use Rattle.answers.specs.declared.Answer.the-variants.{Done, No}
 
 abbrev pub numberOf : Refusal → ℕ
 numberOf Size = 1
@@ -18,8 +16,3 @@ numberOf AlreadyHeld = 9
 numberOf Full = 10
 numberOf NothingHeld = 11
 numberOf BeyondCurve = 12
-
--- 0 is no refusal
-abbrev pub answerNumber : Answer → ℕ
-answerNumber Done = 0
-answerNumber (No r) = numberOf r

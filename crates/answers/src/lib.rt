@@ -1,7 +1,8 @@
 // What every call answers: done, or no with the reason. Document 01, "Numbers for no", gives each reason its number.
 // Nothing is refused here.
 ghost use mathlib.Core.Path.{_≡_};
-ghost use Rattle.answers.specs.Number.{numberOf, answerNumber};
+ghost use Rattle.answers.specs.Number.{numberOf};
+ghost use Rattle.answers.specs.Said.{says, saidNumber};
 
 // The reasons, in the order of document 01's table.
 pub enum Refusal {
@@ -57,9 +58,9 @@ pub fn number(r: Refusal) -> u32
     }
 }
 
-// The same of a whole answer, where 0 is no refusal.
+// The number that a whole answer says, where 0 is no refusal.
 pub fn answer_number(a: Answer) -> u32
-    ensures { λ n. ⌜ n ≡ answerNumber a ⌝ }
+    ensures { λ n. ⌜ n ≡ saidNumber (says a) ⌝ }
 {
     match a {
         Answer::Done => 0,

@@ -2,14 +2,14 @@
 -- the powers of g and of 1/g advance by one product each. What is computed is the table of cosines (computed-is), so a list that passes the test
 -- is that table (is-cosines). Assumes nothing.
 use mathlib.Core.Path.{_≡_, refl, ap, ap₂, sym, _∙_}
-use mathlib.Core.Bool.{Bool, true, false}
+use mathlib.Core.Bool.{Bool, true, false, _&&_}
 use mathlib.Core.List.{List, [], _∷_, _++_}
 use Prim.Native.Nat.{ℕ, zero, suc, _+_, _*_, _^_, _%_, _/_}
 use native.Mathlib.Nat as Nat
 use native.Mathlib.Omega.{arith}
 use lib.Dec.{T, eqb, eqb→eq}
 use lib.Pow.{pow-add}
-use Rattle.ring.specs.Finite.{tab, both}
+use Rattle.ring.specs.Finite.{tab}
 use Rattle.ring.proofs.Below.{both-left, both-right}
 use Rattle.ring.proofs.Modular.{mod-mul, mul-mod}
 use Rattle.ring.proofs.Table.{tab-ext}
@@ -70,7 +70,7 @@ abbrev same : List ℕ → List ℕ → Bool
 same [] [] = true
 same [] (y ∷ ys) = false
 same (x ∷ xs) [] = false
-same (x ∷ xs) (y ∷ ys) = both (eqb x y) (same xs ys)
+same (x ∷ xs) (y ∷ ys) = eqb x y && same xs ys
 
 same-is : (xs ys : List ℕ) → T (same xs ys) → xs ≡ ys
 same-is [] [] t = refl

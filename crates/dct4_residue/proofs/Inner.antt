@@ -1,7 +1,7 @@
 -- The two inner transforms: what is asked of the whole is enough for the split and the merge (ready-even, ready-levels, split-ready, merge-ready), what the split leaves
 -- is their inputs one after the other, which are residues, and what the merge makes of their sums is the sum of the whole (dct4-is, dst4-is). Assumes nothing.
 use mathlib.Core.Path.{_≡_, _∙_, ap₂}
-use mathlib.Core.Bool.{Bool, true, false}
+use mathlib.Core.Bool.{Bool, true, false, cond}
 use mathlib.Core.List.{List, _++_}
 use Prim.Native.Nat.{ℕ, zero, suc, _+_, _*_, _-_, _/_, _<_, _≤_}
 use native.Mathlib.Nat as Nat
@@ -11,7 +11,6 @@ use lib.ListN.{length}
 use Rattle.sums.specs.Residue.{p, Residues}
 use Rattle.sums.specs.Transform.{dct3Sum, dst3Sum, dct4Sum, dst4Sum}
 use Rattle.algorithms.specs.Four.{firstDoubled, lastDoubled, leftDct4, rightDct4, leftDst4, rightDst4, mergeDct4, mergeDst4}
-use Rattle.algorithms.specs.Lists.{choose}
 use Rattle.algorithms.specs.Ops.{at}
 use Rattle.algorithms.specs.Residues.{residueOps, residueTwiddles}
 use Rattle.algorithms.proofs.Four.{length-left-dct4, length-right-dct4, length-left-dst4, length-right-dst4, dct4-merged, dst4-merged}
@@ -69,7 +68,7 @@ module _ (m : ℕ) (x : List ℕ) where
     last-below : (k : ℕ) → lastDoubled residueOps m x op k < p
     last-below k = by (eqb (suc k) m)
       where
-        by : (t : Bool) → choose t (residueOps .double (at residueOps x (2 * m - 1))) (op (at residueOps x (2 * k + 1)) (at residueOps x (2 * k + 2))) < p
+        by : (t : Bool) → cond t (residueOps .double (at residueOps x (2 * m - 1))) (op (at residueOps x (2 * k + 1)) (at residueOps x (2 * k + 2))) < p
         by true = Nat.mod-lt _ (omega arith)
         by false = reduces _ _
 

@@ -1,9 +1,9 @@
 -- Laws of the tests that a call makes before it stores anything. A test that was passed holds (passed), and of four in a row each does
--- (all-four). Where the second test of `both` is known, it is the first or false (both-second, both-no-second). `oneOf` holds of the
+-- (all-four). Where the second test of `both` is known, it is the first or false (both-second, both-no-second; sound-one). `oneOf` holds of the
 -- numbers that a `match` lists, as the check says it (one-of-keys, keys-one-of).
 -- A call that asks its first tests of another call goes on to the rest only where those are passed (past-lengths, past-residues), and
 -- else gives the same refusal (lengths-refused, residues-refused). Assumes nothing.
-use mathlib.Core.Bool.{Bool, true, false, not}
+use mathlib.Core.Bool.{Bool, true, false, not, _&&_}
 use mathlib.Core.List.{List, [], _∷_}
 use mathlib.Core.Logic.{inl, inr, ⊎-elim}
 use mathlib.Core.Path.{_≡_, refl, sym, _∙_, ap, subst, subst⁻¹}
@@ -11,12 +11,14 @@ use Prim.Native.Nat.{ℕ}
 use lib.Dec.{T, eqb, eqb→eq}
 use borrow.Author.Tests.{not-false}
 use types.Run.{OneOf}
-use Rattle.answers.specs.Refuse.{transformAnswer}
+use Rattle.answers.specs.Refuse.{refuse}
+use Rattle.answers.specs.Said.{Said, accepted, refused, says}
 use Rattle.answers.specs.declared.Answer.{Answer}
 use Rattle.answers.specs.declared.Answer.the-variants.{Done, No}
 use Rattle.answers.specs.declared.Refusal.{Refusal}
-use Rattle.ring.specs.Finite.{both}
 use Rattle.ring.proofs.Below.{both-left, both-right, eq→eqb}
+use Rattle.sums.specs.Bad.{soundEntries, soundSlices}
+use Rattle.sums.specs.Call.{transformAnswer}
 use Rattle.sums.specs.Size.{oneOf}
 use Rattle.sums.proofs.Sizes.{or-cases, or-first, or-second}
 
@@ -24,18 +26,22 @@ use Rattle.sums.proofs.Sizes.{or-cases, or-first, or-second}
 pub passed : {r test : Bool} → r ≡ test → not r ≡ false → T test
 passed {r} is left = subst T is (subst⁻¹ T (not-false r left) tt)
 
-pub all-four : (w x y z : Bool) → T (both w (both x (both y z))) → T w × T x × T y × T z
+pub all-four : (w x y z : Bool) → T (w && (x && (y && z))) → T w × T x × T y × T z
 all-four w x y z t =
-    let rest = both-right w (both x (both y z)) t in
-    let last = both-right x (both y z) rest in
-    (both-left w (both x (both y z)) t, both-left x (both y z) rest, both-left y z last, both-right y z last)
+    let rest = both-right w (x && (y && z)) t in
+    let last = both-right x (y && z) rest in
+    (both-left w (x && (y && z)) t, both-left x (y && z) rest, both-left y z last, both-right y z last)
 
-pub both-second : (a b : Bool) → T b → a ≡ both a b
+pub both-second : (a b : Bool) → T b → a ≡ (a && b)
 both-second a false t = absurd t
 both-second true true t = refl
 both-second false true t = refl
 
-pub both-no-second : (a b : Bool) → (T b → ⊥) → false ≡ both a b
+-- one slice is searched
+pub sound-one : (x : List ℕ) → soundSlices (x ∷ []) ≡ soundEntries x
+sound-one x = sym (both-second (soundEntries x) true tt)
+
+pub both-no-second : (a b : Bool) → (T b → ⊥) → false ≡ (a && b)
 both-no-second a true none = absurd (none tt)
 both-no-second true false none = refl
 both-no-second false false none = refl
@@ -54,44 +60,48 @@ keys-one-of (k ∷ []) n e = or-first (eqb n k) false (eq→eqb n k e)
 keys-one-of (k ∷ l ∷ ks) n (inl e) = or-first (eqb n k) (oneOf (l ∷ ks) n) (eq→eqb n k e)
 keys-one-of (k ∷ l ∷ ks) n (inr h) = or-second (eqb n k) (oneOf (l ∷ ks) n) (keys-one-of (l ∷ ks) n h)
 
--- what is answered once the first tests have their answer
-abbrev after : Answer → Answer → Answer
-after Done rest = rest
-after (No r) rest = No r
+-- what is said once the first tests have said their part
+abbrev after : Said → Said → Said
+after (accepted values) rest = rest
+after (refused number values) rest = refused number values
 
-after-lengths : (size lengths residues window : Bool)
-    → transformAnswer size lengths residues window ≡ after (transformAnswer size lengths true true) (transformAnswer true true residues window)
-after-lengths true true residues window = refl
-after-lengths true false residues window = refl
-after-lengths false lengths residues window = refl
+after-lengths : (size lengths : Bool) (searched : List (List ℕ)) (window : Bool)
+    → transformAnswer size lengths searched window ≡ after (transformAnswer size lengths [] true) (transformAnswer true true searched window)
+after-lengths true true searched window = refl
+after-lengths true false searched window = refl
+after-lengths false lengths searched window = refl
 
-after-residues : (size lengths residues window : Bool)
-    → transformAnswer size lengths residues window ≡ after (transformAnswer size lengths residues true) (transformAnswer true true true window)
-after-residues true true true window = refl
-after-residues true true false window = refl
-after-residues true false residues window = refl
-after-residues false lengths residues window = refl
+after-residues : (size lengths : Bool) (searched : List (List ℕ)) (window : Bool)
+    → transformAnswer size lengths searched window ≡ after (transformAnswer size lengths searched true) (transformAnswer true true [] window)
+after-residues true true searched window = by (soundSlices searched)
+  where
+    by : (sound : Bool)
+        → refuse (not sound) 3 (refuse (not window) 4 (accepted [])) ≡ after (refuse (not sound) 3 (accepted [])) (refuse (not window) 4 (accepted []))
+    by true = refl
+    by false = refl
+after-residues true false searched window = refl
+after-residues false lengths searched window = refl
 
-module _ {answer first : Answer} (asked : answer ≡ first) (rest : Answer) where
+module _ {answer : Answer} {first : Said} (asked : says answer ≡ first) (rest : Said) where
   goes-on : answer ≡ Done → after first rest ≡ rest
-  goes-on done = ap (λ (a : Answer). after a rest) (sym asked ∙ done)
+  goes-on done = ap (λ (a : Said). after a rest) (sym asked ∙ ap says done)
 
-  stays : (r : Refusal) → answer ≡ No r → answer ≡ after first rest
-  stays r refused = refused ∙ ap (λ (a : Answer). after a rest) (sym refused ∙ asked)
+  stays : (r : Refusal) → answer ≡ No r → says answer ≡ after first rest
+  stays r told = ap says told ∙ ap (λ (a : Said). after a rest) (sym (ap says told) ∙ asked)
 
-module _ (size lengths residues window : Bool) {answer : Answer} where
-  pub past-lengths : answer ≡ transformAnswer size lengths true true → answer ≡ Done
-      → transformAnswer size lengths residues window ≡ transformAnswer true true residues window
-  past-lengths asked done = after-lengths size lengths residues window ∙ goes-on asked (transformAnswer true true residues window) done
+module _ (size lengths : Bool) (searched : List (List ℕ)) (window : Bool) {answer : Answer} where
+  pub past-lengths : says answer ≡ transformAnswer size lengths [] true → answer ≡ Done
+      → transformAnswer size lengths searched window ≡ transformAnswer true true searched window
+  past-lengths asked done = after-lengths size lengths searched window ∙ goes-on asked (transformAnswer true true searched window) done
 
-  pub lengths-refused : answer ≡ transformAnswer size lengths true true → (r : Refusal) → answer ≡ No r
-      → answer ≡ transformAnswer size lengths residues window
-  lengths-refused asked r refused = stays asked (transformAnswer true true residues window) r refused ∙ sym (after-lengths size lengths residues window)
+  pub lengths-refused : says answer ≡ transformAnswer size lengths [] true → (r : Refusal) → answer ≡ No r
+      → says answer ≡ transformAnswer size lengths searched window
+  lengths-refused asked r told = stays asked (transformAnswer true true searched window) r told ∙ sym (after-lengths size lengths searched window)
 
-  pub past-residues : answer ≡ transformAnswer size lengths residues true → answer ≡ Done
-      → transformAnswer size lengths residues window ≡ transformAnswer true true true window
-  past-residues asked done = after-residues size lengths residues window ∙ goes-on asked (transformAnswer true true true window) done
+  pub past-residues : says answer ≡ transformAnswer size lengths searched true → answer ≡ Done
+      → transformAnswer size lengths searched window ≡ transformAnswer true true [] window
+  past-residues asked done = after-residues size lengths searched window ∙ goes-on asked (transformAnswer true true [] window) done
 
-  pub residues-refused : answer ≡ transformAnswer size lengths residues true → (r : Refusal) → answer ≡ No r
-      → answer ≡ transformAnswer size lengths residues window
-  residues-refused asked r refused = stays asked (transformAnswer true true true window) r refused ∙ sym (after-residues size lengths residues window)
+  pub residues-refused : says answer ≡ transformAnswer size lengths searched true → (r : Refusal) → answer ≡ No r
+      → says answer ≡ transformAnswer size lengths searched window
+  residues-refused asked r told = stays asked (transformAnswer true true [] window) r told ∙ sym (after-residues size lengths searched window)

@@ -2,13 +2,14 @@
 // for no", 1 to 3. And the two stores that calls share: zeroing and copying. A test here answers and changes nothing.
 ghost use mathlib.Core.Path.{_≡_};
 ghost use mathlib.Core.Bool.{true};
+ghost use mathlib.Core.List.{[], _∷_};
 ghost use Prim.Native.Nat.{_*_, _≤_};
 ghost use lib.ListN.{length};
-ghost use Rattle.answers.specs.Refuse.{transformAnswer};
+ghost use Rattle.answers.specs.Said.{says};
 ghost use Rattle.sums.specs.Size.{allowedSize};
 ghost use Rattle.sums.specs.Lengths.{lengthsFit};
 ghost use Rattle.sums.specs.Bad.{firstBad, soundEntries};
-ghost use Rattle.sums.specs.Call.{inPlaceAnswer, blockFits};
+ghost use Rattle.sums.specs.Call.{transformAnswer, inPlaceAnswer, blockFits};
 ghost use Rattle.ring.specs.Part.{cleared, copied};
 use answers::Answer;
 use answers::Refusal;
@@ -95,7 +96,7 @@ pub fn lengths_answer(
     parts: usize,
 ) -> Answer
     requires { ⌜ (times ≤ 2) × (parts ≤ 2) ⌝ }
-    ensures { λ r. ⌜ r ≡ transformAnswer (allowedSize least n) (lengthsFit buffer (times * n) scratch (parts * n)) true true ⌝ }
+    ensures { λ r. ⌜ says r ≡ transformAnswer (allowedSize least n) (lengthsFit buffer (times * n) scratch (parts * n)) [] true ⌝ }
 {
     if !allowed_size(least, n) {
         return Answer::No(Refusal::Size);
@@ -116,7 +117,7 @@ pub fn entries_answer(
     parts: usize,
 ) -> Answer
     requires { ⌜ (times ≤ 2) × (parts ≤ 2) ⌝ }
-    ensures { λ r. ⌜ r ≡ transformAnswer (allowedSize least n) (lengthsFit (length (now (buffer .entry))) (times * n) scratch (parts * n)) (soundEntries (now (buffer .entry))) true ⌝ }
+    ensures { λ r. ⌜ says r ≡ transformAnswer (allowedSize least n) (lengthsFit (length (now (buffer .entry))) (times * n) scratch (parts * n)) (now (buffer .entry) ∷ []) true ⌝ }
 {
     let answer = lengths_answer(least, n, buffer.len(), times, scratch, parts);
     if let Answer::Done = answer {
@@ -129,7 +130,7 @@ pub fn entries_answer(
 
 // What a transform in place answers before it stores anything.
 pub fn in_place_answer(least: usize, n: usize, buffer: &[u32], scratch: usize) -> Answer
-    ensures { λ r. ⌜ r ≡ inPlaceAnswer least n (now (buffer .entry)) scratch ⌝ }
+    ensures { λ r. ⌜ says r ≡ inPlaceAnswer least n (now (buffer .entry)) scratch ⌝ }
 {
     entries_answer(least, n, buffer, 1, scratch, 1)
 }

@@ -1,6 +1,7 @@
 // What a call over f64 asks of its size and of the lengths of what it is lent, before it changes any entry: document 01, "Sizes" and "Numbers for no", 1 and 2. And
 // the two stores that calls share: zeroing and copying. A test here answers and changes nothing, and looks at no entry.
 ghost use mathlib.Core.Path.{_≡_};
+ghost use Rattle.answers.specs.Said.{says};
 ghost use Prim.Native.Nat.{_≤_};
 ghost use lib.ListN.{length};
 ghost use Rattle.ring.specs.Part.{cleared, copied};
@@ -49,7 +50,7 @@ fn tabled_fits(
 
 // What a naive transform in place answers before it stores anything.
 pub fn naive_answer(n: usize, cosines: usize, sines: usize, buffer: usize, scratch: usize) -> Answer
-    ensures { λ r. ⌜ r ≡ naiveAnswer n cosines sines buffer scratch ⌝ }
+    ensures { λ r. ⌜ says r ≡ naiveAnswer n cosines sines buffer scratch ⌝ }
 {
     if !naive_size(n) {
         return Answer::No(Refusal::Size);
@@ -69,7 +70,7 @@ pub fn fast_answer(
     buffer: usize,
     scratch: usize,
 ) -> Answer
-    ensures { λ r. ⌜ r ≡ fastAnswer least n cosines sines buffer scratch ⌝ }
+    ensures { λ r. ⌜ says r ≡ fastAnswer least n cosines sines buffer scratch ⌝ }
 {
     if !lending::allowed_size(least, n) {
         return Answer::No(Refusal::Size);
@@ -90,7 +91,7 @@ pub fn naive_block_answer(
     window: usize,
     scratch: usize,
 ) -> Answer
-    ensures { λ r. ⌜ r ≡ naiveBlockAnswer n table a b c window scratch ⌝ }
+    ensures { λ r. ⌜ says r ≡ naiveBlockAnswer n table a b c window scratch ⌝ }
 {
     if !even_size(n) {
         return Answer::No(Refusal::Size);
@@ -115,7 +116,7 @@ pub fn fast_block_answer(
     window: usize,
     scratch: usize,
 ) -> Answer
-    ensures { λ r. ⌜ r ≡ fastBlockAnswer n cosines sines a b c window scratch ⌝ }
+    ensures { λ r. ⌜ says r ≡ fastBlockAnswer n cosines sines a b c window scratch ⌝ }
 {
     if !lending::allowed_size(2, n) {
         return Answer::No(Refusal::Size);

@@ -1,5 +1,6 @@
 // The four calls. Each promises, for every input, its answer and what every lent slice then holds, by one definition of its own.
 ghost use mathlib.Core.Path.{_≡_};
+ghost use Rattle.answers.specs.Said.{says};
 ghost use Rattle.sums.specs.Call.{outcome, spread};
 ghost use Rattle.floats.specs.Call.{mdctNaiveCall, mdctFastCall, imdctNaiveCall, imdctFastCall};
 use answers::Answer;
@@ -17,7 +18,7 @@ pub fn mdct_naive(
     window: &[f64],
     scratch: &mut [f64],
 ) -> Answer
-    ensures { λ r. ⌜ outcome r (now (output .exit)) (now (scratch .exit)) ≡ mdctNaiveCall n (now (table .entry)) (now (first .entry)) (now (second .entry)) (now (output .entry)) (now (window .entry)) (now (scratch .entry)) ⌝ }
+    ensures { λ r. ⌜ outcome (says r) (now (output .exit)) (now (scratch .exit)) ≡ mdctNaiveCall n (now (table .entry)) (now (first .entry)) (now (second .entry)) (now (output .entry)) (now (window .entry)) (now (scratch .entry)) ⌝ }
 {
     let answer = naive_block_answer(
         n,
@@ -44,7 +45,7 @@ pub fn imdct_naive(
     window: &[f64],
     scratch: &mut [f64],
 ) -> Answer
-    ensures { λ r. ⌜ spread r (now (first .exit)) (now (second .exit)) (now (scratch .exit)) ≡ imdctNaiveCall n (now (table .entry)) (now (input .entry)) (now (first .entry)) (now (second .entry)) (now (window .entry)) (now (scratch .entry)) ⌝ }
+    ensures { λ r. ⌜ spread (says r) (now (first .exit)) (now (second .exit)) (now (scratch .exit)) ≡ imdctNaiveCall n (now (table .entry)) (now (input .entry)) (now (first .entry)) (now (second .entry)) (now (window .entry)) (now (scratch .entry)) ⌝ }
 {
     let answer = naive_block_answer(
         n,
@@ -72,7 +73,7 @@ pub fn mdct_fast(
     window: &[f64],
     scratch: &mut [f64],
 ) -> Answer
-    ensures { λ r. ⌜ outcome r (now (output .exit)) (now (scratch .exit)) ≡ mdctFastCall n (now (cosines .entry)) (now (sines .entry)) (now (first .entry)) (now (second .entry)) (now (output .entry)) (now (window .entry)) (now (scratch .entry)) ⌝ }
+    ensures { λ r. ⌜ outcome (says r) (now (output .exit)) (now (scratch .exit)) ≡ mdctFastCall n (now (cosines .entry)) (now (sines .entry)) (now (first .entry)) (now (second .entry)) (now (output .entry)) (now (window .entry)) (now (scratch .entry)) ⌝ }
 {
     let answer = fast_block_answer(
         n,
@@ -101,7 +102,7 @@ pub fn imdct_fast(
     window: &[f64],
     scratch: &mut [f64],
 ) -> Answer
-    ensures { λ r. ⌜ spread r (now (first .exit)) (now (second .exit)) (now (scratch .exit)) ≡ imdctFastCall n (now (cosines .entry)) (now (sines .entry)) (now (input .entry)) (now (first .entry)) (now (second .entry)) (now (window .entry)) (now (scratch .entry)) ⌝ }
+    ensures { λ r. ⌜ spread (says r) (now (first .exit)) (now (second .exit)) (now (scratch .exit)) ≡ imdctFastCall n (now (cosines .entry)) (now (sines .entry)) (now (input .entry)) (now (first .entry)) (now (second .entry)) (now (window .entry)) (now (scratch .entry)) ⌝ }
 {
     let answer = fast_block_answer(
         n,

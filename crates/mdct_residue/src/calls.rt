@@ -1,5 +1,6 @@
 // The four calls. Each promises, for every input, its answer and what every lent slice then holds, by one definition: `mdctCall` or `imdctCall`.
 ghost use mathlib.Core.Path.{_≡_};
+ghost use Rattle.answers.specs.Said.{says};
 ghost use Rattle.sums.specs.Call.{outcome, mdctCall, spread, imdctCall};
 use answers::Answer;
 
@@ -12,7 +13,7 @@ pub fn mdct_naive(
     window: &[u32],
     scratch: &mut [u32],
 ) -> Answer
-    ensures { λ r. ⌜ outcome r (now (output .exit)) (now (scratch .exit)) ≡ mdctCall 0 n (now (first .entry)) (now (second .entry)) (now (output .entry)) (now (window .entry)) (now (scratch .entry)) ⌝ }
+    ensures { λ r. ⌜ outcome (says r) (now (output .exit)) (now (scratch .exit)) ≡ mdctCall 0 n (now (first .entry)) (now (second .entry)) (now (output .entry)) (now (window .entry)) (now (scratch .entry)) ⌝ }
 {
     let answer = mdct_answers::mdct_answer(0, n, first, second, output, window, scratch.len());
     if let Answer::Done = answer {
@@ -30,7 +31,7 @@ pub fn mdct_fast(
     window: &[u32],
     scratch: &mut [u32],
 ) -> Answer
-    ensures { λ r. ⌜ outcome r (now (output .exit)) (now (scratch .exit)) ≡ mdctCall 2 n (now (first .entry)) (now (second .entry)) (now (output .entry)) (now (window .entry)) (now (scratch .entry)) ⌝ }
+    ensures { λ r. ⌜ outcome (says r) (now (output .exit)) (now (scratch .exit)) ≡ mdctCall 2 n (now (first .entry)) (now (second .entry)) (now (output .entry)) (now (window .entry)) (now (scratch .entry)) ⌝ }
 {
     let answer = mdct_answers::mdct_answer(2, n, first, second, output, window, scratch.len());
     if let Answer::Done = answer {
@@ -48,7 +49,7 @@ pub fn imdct_naive(
     window: &[u32],
     scratch: &mut [u32],
 ) -> Answer
-    ensures { λ r. ⌜ spread r (now (first .exit)) (now (second .exit)) (now (scratch .exit)) ≡ imdctCall 0 n (now (input .entry)) (now (first .entry)) (now (second .entry)) (now (window .entry)) (now (scratch .entry)) ⌝ }
+    ensures { λ r. ⌜ spread (says r) (now (first .exit)) (now (second .exit)) (now (scratch .exit)) ≡ imdctCall 0 n (now (input .entry)) (now (first .entry)) (now (second .entry)) (now (window .entry)) (now (scratch .entry)) ⌝ }
 {
     let answer = mdct_answers::imdct_answer(0, n, input, first, second, window, scratch.len());
     if let Answer::Done = answer {
@@ -66,7 +67,7 @@ pub fn imdct_fast(
     window: &[u32],
     scratch: &mut [u32],
 ) -> Answer
-    ensures { λ r. ⌜ spread r (now (first .exit)) (now (second .exit)) (now (scratch .exit)) ≡ imdctCall 2 n (now (input .entry)) (now (first .entry)) (now (second .entry)) (now (window .entry)) (now (scratch .entry)) ⌝ }
+    ensures { λ r. ⌜ spread (says r) (now (first .exit)) (now (second .exit)) (now (scratch .exit)) ≡ imdctCall 2 n (now (input .entry)) (now (first .entry)) (now (second .entry)) (now (window .entry)) (now (scratch .entry)) ⌝ }
 {
     let answer = mdct_answers::imdct_answer(2, n, input, first, second, window, scratch.len());
     if let Answer::Done = answer {

@@ -1,7 +1,7 @@
 -- Each naive transform is a list of angle sums over the lent table of 4n entries, whose entry k stands at k/(4n) of a turn: dct2-is, dst2-is, dct3-is, where the sums go over
 -- all entries but the first, and dst3-is, where the last entry has been halved. All follow from the terms of such a list (sums-are). Assumes nothing.
 use mathlib.Core.Path.{_≡_, refl, sym, _∙_, ap, ap₂, subst}
-use mathlib.Core.Bool.{Bool, true, false}
+use mathlib.Core.Bool.{Bool, true, false, cond}
 use mathlib.Core.List.{List}
 use Prim.Native.Nat.{ℕ, suc, _+_, _*_, _-_, _%_, _/_, _<_}
 use native.Mathlib.Nat as Nat
@@ -16,7 +16,6 @@ use Rattle.ring.proofs.Below.{eq→eqb}
 use Rattle.ring.proofs.Parts.{part-entry}
 use Rattle.ring.proofs.Table.{tab-ext}
 use Rattle.ring.proofs.Terms.{terms-ext}
-use Rattle.algorithms.specs.Lists.{choose}
 use Rattle.algorithms.specs.Naive.{naiveDct2, naiveDst2, naiveDct3, naiveDst3, lastHalved}
 use Rattle.algorithms.specs.Ops.{Ops, Twiddles, at}
 use Rattle.floats.specs.Arithmetic.{floatOps, floatZero, turnEntry, oneTable}
@@ -28,7 +27,7 @@ halved-at : {A : Type 0} (O : Ops A) (W : Twiddles A) (x : List A) {m : ℕ} {v 
     → at O (set x m v) i ≡ lastHalved O W x i
 halved-at O W x {m} {v} last halved i = by (eqb (suc i) (length x)) refl
   where
-    by : (b : Bool) → eqb (suc i) (length x) ≡ b → at O (set x m v) i ≡ choose b (O .halve (at O x i)) (at O x i)
+    by : (b : Bool) → eqb (suc i) (length x) ≡ b → at O (set x m v) i ≡ cond b (O .halve (at O x i)) (at O x i)
     by true e =
         let here : suc i ≡ length x = eqb→eq (suc i) (length x) (subst T (sym e) tt) in
         let same : i ≡ m = omega arith in

@@ -1,13 +1,12 @@
 -- The rule of the table, by one test that is computed over all of it: the first entry is 1, and each next entry is the one before times g, modulo p.
 -- Each entry is then the power of g at its place, so the list is the table of document 01. Assumes nothing.
 use mathlib.Core.Path.{_≡_, ap, subst, sym, _∙_}
-use mathlib.Core.Bool.{Bool, true}
+use mathlib.Core.Bool.{Bool, true, _&&_}
 use mathlib.Core.List.{List, [], _∷_}
 use Prim.Native.Nat.{ℕ, zero, suc, _+_, _*_, _^_, _%_, _<_}
 use native.Mathlib.Nat.{add-zero, add-suc, suc-add, zero-add, mul-one, pow-zero, le-of-suc-le-suc, not-suc-le-zero}
 use lib.Dec.{T, eqb, eqb→eq}
 use lib.ListN.{length, getD}
-use Rattle.ring.specs.Finite.{both}
 use Rattle.ring.proofs.Below.{both-left, both-right}
 use Rattle.ring.proofs.Table.{is-tab}
 use Rattle.sums.specs.Residue.{p, g, powersTable}
@@ -16,7 +15,7 @@ use Rattle.sums.proofs.Powers.{power-next}
 -- the first entry is x, and each next entry is the one before times g, modulo p. 350007156 is g, as a numeral, so that the test computes
 abbrev pub geometric : ℕ → List ℕ → Bool
 geometric x [] = true
-geometric x (y ∷ ys) = both (eqb y x) (geometric (y * 350007156 % p) ys)
+geometric x (y ∷ ys) = eqb y x && geometric (y * 350007156 % p) ys
 
 module _ (x y : ℕ) (ys : List ℕ) (t : T (geometric x (y ∷ ys))) where
   first : y ≡ x

@@ -1,23 +1,23 @@
 -- Tests that compute, and the facts they stand for: both of two, equality, all indices below a number. Assumes nothing.
 use mathlib.Core.Path.{_≡_, refl, sym, subst}
 use mathlib.Core.Logic.{⊎-elim}
-use mathlib.Core.Bool.{Bool, true, false}
+use mathlib.Core.Bool.{Bool, true, false, _&&_}
 use Prim.Native.Nat.{ℕ, zero, suc, _+_, _<_}
 use native.Mathlib.Nat as Nat
 use native.Mathlib.Numerals.{add-one}
 use native.Mathlib.Omega.{arith}
 use lib.Dec.{T, eqb, eqb-refl}
-use Rattle.ring.specs.Finite.{both, allBelow}
+use Rattle.ring.specs.Finite.{allBelow}
 
-pub both-left : (a b : Bool) → T (both a b) → T a
+pub both-left : (a b : Bool) → T (a && b) → T a
 both-left true b t = tt
 both-left false b t = t
 
-pub both-right : (a b : Bool) → T (both a b) → T b
+pub both-right : (a b : Bool) → T (a && b) → T b
 both-right true b t = t
 both-right false b t = absurd t
 
-pub both-of : (a b : Bool) → T a → T b → T (both a b)
+pub both-of : (a b : Bool) → T a → T b → T (a && b)
 both-of true b s t = t
 both-of false b s t = s
 

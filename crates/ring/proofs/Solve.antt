@@ -3,12 +3,11 @@
 -- each times a factor k: l − r is to be the sum of the k · (a − b).
 -- A polynomial is a list of terms; a term is a coefficient, as a difference of two numbers, and the exponent of each value. Assumes nothing.
 use mathlib.Core.Path.{_≡_, refl, sym, _∙_, ap, ap₂, subst}
-use mathlib.Core.Bool.{Bool, true, false}
+use mathlib.Core.Bool.{Bool, true, false, _&&_}
 use mathlib.Core.List.{List, [], _∷_}
 use Prim.Native.Nat.{ℕ, zero, suc, _+_, _*_}
 use lib.Dec.{T, eqb, eqb→eq}
 use lib.ListN.{getD}
-use Rattle.ring.specs.Finite.{both}
 use Rattle.ring.proofs.Below.{both-left, both-right}
 use Rattle.ring.proofs.Ring as Ring
 use Rattle.ring.proofs.Ring.{Ring}
@@ -32,7 +31,7 @@ abbrev same : List ℕ → List ℕ → Bool
 same [] [] = true
 same [] (n ∷ ns) = false
 same (m ∷ ms) [] = false
-same (m ∷ ms) (n ∷ ns) = both (eqb m n) (same ms ns)
+same (m ∷ ms) (n ∷ ns) = eqb m n && same ms ns
 
 abbrev together : List ℕ → List ℕ → List ℕ
 together [] ns = ns
@@ -74,7 +73,7 @@ normal (:- a) = opposite (normal a)
 
 abbrev vanishes : List Term → Bool
 vanishes [] = true
-vanishes (term a b m ∷ ts) = both (eqb a b) (vanishes ts)
+vanishes (term a b m ∷ ts) = eqb a b && vanishes ts
 
 same-eq : (m n : List ℕ) → T (same m n) → m ≡ n
 same-eq [] [] t = refl

@@ -1,6 +1,6 @@
 -- Finite families given by a function of the index, which runs from 0: their sum, their list, and a test of them all. And the first place of a list that passes a test.
 -- Over any type and any operation, so that whole numbers, residues and floats share them. Assumes nothing.
-use mathlib.Core.Bool.{Bool, true, false}
+use mathlib.Core.Bool.{Bool, true, false, _&&_}
 use mathlib.Core.List.{List, [], _∷_}
 use Prim.Native.Nat.{ℕ, zero, suc}
 
@@ -14,14 +14,10 @@ unfoldable pub tab : {A : Type 0} → ℕ → (ℕ → A) → List A
 tab zero f = []
 tab (suc n) f = f zero ∷ tab n (λ k. f (suc k))
 
-abbrev pub both : Bool → Bool → Bool
-both true b = b
-both false b = false
-
 -- the test holds at 0, 1, .., n − 1
 unfoldable pub allBelow : ℕ → (ℕ → Bool) → Bool
 allBelow zero test = true
-allBelow (suc n) test = both (allBelow n test) (test n)
+allBelow (suc n) test = allBelow n test && test n
 
 -- here if the test says so, else one place beyond what the rest says
 abbrev pub placeBy : Bool → ℕ → ℕ

@@ -18,3 +18,4 @@ pub mod Whole
 pub mod Curve
 pub mod Reading
 pub mod Figures
+pub mod Outcomes

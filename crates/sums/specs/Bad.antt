@@ -1,6 +1,6 @@
 -- Document 01, "Numbers for no", 3: a residue is p or more. Assumes nothing.
-use mathlib.Core.Bool.{Bool}
-use mathlib.Core.List.{List}
+use mathlib.Core.Bool.{Bool, true, _&&_}
+use mathlib.Core.List.{List, [], _∷_}
 use Prim.Native.Nat.{ℕ}
 use lib.ListN.{length}
 use lib.Dec.{leb, eqb}
@@ -14,3 +14,8 @@ firstBad x = firstPlace (leb p) x
 -- every entry is below p
 unfoldable pub soundEntries : List ℕ → Bool
 soundEntries x = eqb (firstBad x) (length x)
+
+-- so is every entry of each of several slices, which are searched in this order
+abbrev pub soundSlices : List (List ℕ) → Bool
+soundSlices [] = true
+soundSlices (slice ∷ rest) = soundEntries slice && soundSlices rest

@@ -3,7 +3,7 @@
 use mathlib.Core.List.{List, [], _∷_}
 use Prim.Native.Nat.{ℕ}
 use Rattle.ring.specs.Finite.{tab}
-use Rattle.answers.specs.Number.{answerNumber}
+use Rattle.answers.specs.Said.{saidNumber}
 use Rattle.sums.specs.Residue.{minusOne}
 use Rattle.sums.specs.Transform.{dct2Sum, dst2Sum, dct3Sum, dst3Sum, dct4Sum}
 use Rattle.sums.specs.Call.{windowAnswer}
@@ -21,8 +21,8 @@ computedFigures =
     ∷ dct3Sum (dct2Sum (1 ∷ 2 ∷ 3 ∷ 4 ∷ []))
     ∷ dct4Sum (dct4Sum (1 ∷ 2 ∷ 3 ∷ 4 ∷ []))
     ∷ dct4Sum (dct4Sum (1 ∷ 0 ∷ []))
-    ∷ (answerNumber (windowAnswer 4 (tab 8 (λ n. 499122177))) ∷ [])
-    ∷ (answerNumber (windowAnswer 4 (tab 8 (λ n. 1))) ∷ [])
+    ∷ (saidNumber (windowAnswer 4 (tab 8 (λ n. 499122177))) ∷ [])
+    ∷ (saidNumber (windowAnswer 4 (tab 8 (λ n. 1))) ∷ [])
     ∷ []
 
 abbrev pub statedFigures : List (List ℕ)

@@ -1,9 +1,9 @@
 -- Document 01, "The sums": residue windows of 2N entries, and when one is accepted. Assumes nothing.
-use mathlib.Core.Bool.{Bool}
+use mathlib.Core.Bool.{Bool, _&&_}
 use mathlib.Core.List.{List}
 use Prim.Native.Nat.{ℕ, _+_, _*_, _-_, _^_, _%_}
 use lib.Dec.{eqb}
-use Rattle.ring.specs.Finite.{both, allBelow, tab}
+use Rattle.ring.specs.Finite.{allBelow, tab}
 use Rattle.sums.specs.Residue.{p, √2, √2⁻¹}
 use Rattle.sums.specs.Angle.{sinTurn}
 use Rattle.sums.specs.Transform.{entry}
@@ -25,7 +25,7 @@ unitPower N w = allBelow N (powerTwo N w)
 
 -- a residue window of 2N entries is accepted exactly if both hold, whoever made it
 unfoldable pub acceptedWindow : ℕ → List ℕ → Bool
-acceptedWindow N w = both (symmetricWindow N w) (unitPower N w)
+acceptedWindow N w = symmetricWindow N w && unitPower N w
 
 -- With N = 2^m, the flat window is (√2)^−m everywhere
 unfoldable pub flatWindow : ℕ → List ℕ

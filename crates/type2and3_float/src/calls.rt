@@ -1,5 +1,6 @@
 // The eight calls. Each promises, for every input, its answer and what both lent slices then hold, by one definition: `naiveCall` or `fastCall` of its routine.
 ghost use mathlib.Core.Path.{_≡_};
+ghost use Rattle.answers.specs.Said.{says};
 ghost use Rattle.sums.specs.Call.{outcome};
 ghost use Rattle.algorithms.specs.Naive.{naiveDct2, naiveDst2, naiveDct3, naiveDst3};
 ghost use Rattle.algorithms.specs.Fast.{dct2Fast, dst2Fast, dct3Fast, dst3Fast};
@@ -20,7 +21,7 @@ fn call_naive(
     buffer: &mut [f64],
     scratch: &mut [f64],
 ) -> Answer
-    ensures { λ r. ⌜ outcome r (now (buffer .exit)) (now (scratch .exit)) ≡ naiveCall (naiveBy which) n (now (cosines .entry)) (now (sines .entry)) (now (buffer .entry)) (now (scratch .entry)) ⌝ }
+    ensures { λ r. ⌜ outcome (says r) (now (buffer .exit)) (now (scratch .exit)) ≡ naiveCall (naiveBy which) n (now (cosines .entry)) (now (sines .entry)) (now (buffer .entry)) (now (scratch .entry)) ⌝ }
 {
     let answer = lending_float::naive_answer(
         n,
@@ -44,7 +45,7 @@ fn call_fast(
     buffer: &mut [f64],
     scratch: &mut [f64],
 ) -> Answer
-    ensures { λ r. ⌜ outcome r (now (buffer .exit)) (now (scratch .exit)) ≡ fastCall 1 (fastBy which) n (now (cosines .entry)) (now (sines .entry)) (now (buffer .entry)) (now (scratch .entry)) ⌝ }
+    ensures { λ r. ⌜ outcome (says r) (now (buffer .exit)) (now (scratch .exit)) ≡ fastCall 1 (fastBy which) n (now (cosines .entry)) (now (sines .entry)) (now (buffer .entry)) (now (scratch .entry)) ⌝ }
 {
     let answer = lending_float::fast_answer(
         1,
@@ -68,7 +69,7 @@ pub fn dct2_naive(
     buffer: &mut [f64],
     scratch: &mut [f64],
 ) -> Answer
-    ensures { λ r. ⌜ outcome r (now (buffer .exit)) (now (scratch .exit)) ≡ naiveCall (naiveDct2 floatOps) n (now (cosines .entry)) (now (sines .entry)) (now (buffer .entry)) (now (scratch .entry)) ⌝ }
+    ensures { λ r. ⌜ outcome (says r) (now (buffer .exit)) (now (scratch .exit)) ≡ naiveCall (naiveDct2 floatOps) n (now (cosines .entry)) (now (sines .entry)) (now (buffer .entry)) (now (scratch .entry)) ⌝ }
 {
     call_naive(Transform::Dct2, n, cosines, sines, buffer, scratch)
 }
@@ -81,7 +82,7 @@ pub fn dct2_fast(
     buffer: &mut [f64],
     scratch: &mut [f64],
 ) -> Answer
-    ensures { λ r. ⌜ outcome r (now (buffer .exit)) (now (scratch .exit)) ≡ fastCall 1 (dct2Fast floatOps) n (now (cosines .entry)) (now (sines .entry)) (now (buffer .entry)) (now (scratch .entry)) ⌝ }
+    ensures { λ r. ⌜ outcome (says r) (now (buffer .exit)) (now (scratch .exit)) ≡ fastCall 1 (dct2Fast floatOps) n (now (cosines .entry)) (now (sines .entry)) (now (buffer .entry)) (now (scratch .entry)) ⌝ }
 {
     call_fast(Transform::Dct2, n, cosines, sines, buffer, scratch)
 }
@@ -94,7 +95,7 @@ pub fn dst2_naive(
     buffer: &mut [f64],
     scratch: &mut [f64],
 ) -> Answer
-    ensures { λ r. ⌜ outcome r (now (buffer .exit)) (now (scratch .exit)) ≡ naiveCall (naiveDst2 floatOps) n (now (cosines .entry)) (now (sines .entry)) (now (buffer .entry)) (now (scratch .entry)) ⌝ }
+    ensures { λ r. ⌜ outcome (says r) (now (buffer .exit)) (now (scratch .exit)) ≡ naiveCall (naiveDst2 floatOps) n (now (cosines .entry)) (now (sines .entry)) (now (buffer .entry)) (now (scratch .entry)) ⌝ }
 {
     call_naive(Transform::Dst2, n, cosines, sines, buffer, scratch)
 }
@@ -107,7 +108,7 @@ pub fn dst2_fast(
     buffer: &mut [f64],
     scratch: &mut [f64],
 ) -> Answer
-    ensures { λ r. ⌜ outcome r (now (buffer .exit)) (now (scratch .exit)) ≡ fastCall 1 (dst2Fast floatOps) n (now (cosines .entry)) (now (sines .entry)) (now (buffer .entry)) (now (scratch .entry)) ⌝ }
+    ensures { λ r. ⌜ outcome (says r) (now (buffer .exit)) (now (scratch .exit)) ≡ fastCall 1 (dst2Fast floatOps) n (now (cosines .entry)) (now (sines .entry)) (now (buffer .entry)) (now (scratch .entry)) ⌝ }
 {
     call_fast(Transform::Dst2, n, cosines, sines, buffer, scratch)
 }
@@ -120,7 +121,7 @@ pub fn dct3_naive(
     buffer: &mut [f64],
     scratch: &mut [f64],
 ) -> Answer
-    ensures { λ r. ⌜ outcome r (now (buffer .exit)) (now (scratch .exit)) ≡ naiveCall (naiveDct3 floatOps) n (now (cosines .entry)) (now (sines .entry)) (now (buffer .entry)) (now (scratch .entry)) ⌝ }
+    ensures { λ r. ⌜ outcome (says r) (now (buffer .exit)) (now (scratch .exit)) ≡ naiveCall (naiveDct3 floatOps) n (now (cosines .entry)) (now (sines .entry)) (now (buffer .entry)) (now (scratch .entry)) ⌝ }
 {
     call_naive(Transform::Dct3, n, cosines, sines, buffer, scratch)
 }
@@ -133,7 +134,7 @@ pub fn dct3_fast(
     buffer: &mut [f64],
     scratch: &mut [f64],
 ) -> Answer
-    ensures { λ r. ⌜ outcome r (now (buffer .exit)) (now (scratch .exit)) ≡ fastCall 1 (dct3Fast floatOps) n (now (cosines .entry)) (now (sines .entry)) (now (buffer .entry)) (now (scratch .entry)) ⌝ }
+    ensures { λ r. ⌜ outcome (says r) (now (buffer .exit)) (now (scratch .exit)) ≡ fastCall 1 (dct3Fast floatOps) n (now (cosines .entry)) (now (sines .entry)) (now (buffer .entry)) (now (scratch .entry)) ⌝ }
 {
     call_fast(Transform::Dct3, n, cosines, sines, buffer, scratch)
 }
@@ -146,7 +147,7 @@ pub fn dst3_naive(
     buffer: &mut [f64],
     scratch: &mut [f64],
 ) -> Answer
-    ensures { λ r. ⌜ outcome r (now (buffer .exit)) (now (scratch .exit)) ≡ naiveCall (naiveDst3 floatOps) n (now (cosines .entry)) (now (sines .entry)) (now (buffer .entry)) (now (scratch .entry)) ⌝ }
+    ensures { λ r. ⌜ outcome (says r) (now (buffer .exit)) (now (scratch .exit)) ≡ naiveCall (naiveDst3 floatOps) n (now (cosines .entry)) (now (sines .entry)) (now (buffer .entry)) (now (scratch .entry)) ⌝ }
 {
     call_naive(Transform::Dst3, n, cosines, sines, buffer, scratch)
 }
@@ -159,7 +160,7 @@ pub fn dst3_fast(
     buffer: &mut [f64],
     scratch: &mut [f64],
 ) -> Answer
-    ensures { λ r. ⌜ outcome r (now (buffer .exit)) (now (scratch .exit)) ≡ fastCall 1 (dst3Fast floatOps) n (now (cosines .entry)) (now (sines .entry)) (now (buffer .entry)) (now (scratch .entry)) ⌝ }
+    ensures { λ r. ⌜ outcome (says r) (now (buffer .exit)) (now (scratch .exit)) ≡ fastCall 1 (dst3Fast floatOps) n (now (cosines .entry)) (now (sines .entry)) (now (buffer .entry)) (now (scratch .entry)) ⌝ }
 {
     call_fast(Transform::Dst3, n, cosines, sines, buffer, scratch)
 }

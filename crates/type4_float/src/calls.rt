@@ -1,5 +1,6 @@
 // The two calls. Each promises, for every input, its answer and what both lent slices then hold, by one definition: `fastCall` of its routine.
 ghost use mathlib.Core.Path.{_≡_};
+ghost use Rattle.answers.specs.Said.{says};
 ghost use Prim.Native.Nat.{_≤_};
 ghost use lib.ListN.{length};
 ghost use Rattle.ring.specs.Part.{cleared};
@@ -63,7 +64,7 @@ fn call(
     buffer: &mut [f64],
     scratch: &mut [f64],
 ) -> Answer
-    ensures { λ r. ⌜ outcome r (now (buffer .exit)) (now (scratch .exit)) ≡ fastCall 2 (fastBy which) n (now (cosines .entry)) (now (sines .entry)) (now (buffer .entry)) (now (scratch .entry)) ⌝ }
+    ensures { λ r. ⌜ outcome (says r) (now (buffer .exit)) (now (scratch .exit)) ≡ fastCall 2 (fastBy which) n (now (cosines .entry)) (now (sines .entry)) (now (buffer .entry)) (now (scratch .entry)) ⌝ }
 {
     let answer = fast_answer(
         2,
@@ -87,7 +88,7 @@ pub fn dct4_fast(
     buffer: &mut [f64],
     scratch: &mut [f64],
 ) -> Answer
-    ensures { λ r. ⌜ outcome r (now (buffer .exit)) (now (scratch .exit)) ≡ fastCall 2 (dct4Fast floatOps) n (now (cosines .entry)) (now (sines .entry)) (now (buffer .entry)) (now (scratch .entry)) ⌝ }
+    ensures { λ r. ⌜ outcome (says r) (now (buffer .exit)) (now (scratch .exit)) ≡ fastCall 2 (dct4Fast floatOps) n (now (cosines .entry)) (now (sines .entry)) (now (buffer .entry)) (now (scratch .entry)) ⌝ }
 {
     call(Transform::Dct4, n, cosines, sines, buffer, scratch)
 }
@@ -100,7 +101,7 @@ pub fn dst4_fast(
     buffer: &mut [f64],
     scratch: &mut [f64],
 ) -> Answer
-    ensures { λ r. ⌜ outcome r (now (buffer .exit)) (now (scratch .exit)) ≡ fastCall 2 (dst4Fast floatOps) n (now (cosines .entry)) (now (sines .entry)) (now (buffer .entry)) (now (scratch .entry)) ⌝ }
+    ensures { λ r. ⌜ outcome (says r) (now (buffer .exit)) (now (scratch .exit)) ≡ fastCall 2 (dst4Fast floatOps) n (now (cosines .entry)) (now (sines .entry)) (now (buffer .entry)) (now (scratch .entry)) ⌝ }
 {
     call(Transform::Dst4, n, cosines, sines, buffer, scratch)
 }

@@ -1,7 +1,7 @@
 -- What the loops that fill a window leave, in the paper's words: the flat window and the sine window. Assumes nothing.
 use mathlib.Core.Path.{_≡_, refl, sym, _∙_, ap, ap₂}
 use mathlib.Core.Bool.{true}
-use mathlib.Core.List.{List}
+use mathlib.Core.List.{List, []}
 use Prim.Native.Nat.{ℕ, _+_, _*_, _^_, _%_, _≤_, _<_}
 use native.Mathlib.Nat as Nat
 use native.Mathlib.Omega.{arith}
@@ -9,6 +9,7 @@ use lib.Dec.{T}
 use lib.ListN.{length}
 use Rattle.answers.specs.declared.Answer.{Answer}
 use Rattle.answers.specs.declared.Answer.the-variants.{Done}
+use Rattle.answers.specs.Said.{says}
 use Rattle.lending.proofs.Accepted.{done-passed}
 use Rattle.lending.proofs.Lengths.{fit-lengths}
 use Rattle.sums.proofs.Sizes.{allowed-power}
@@ -59,7 +60,7 @@ module _ (n : ℕ) (allowed : T (allowedSize 2 n)) where
       ∙ ap (λ (k : ℕ). tab (2 * k) (λ i. sinTurn (2 * i + 1) (8 * k) * (√2 * √2⁻¹ ^ exponentOf n) % p)) (allowed-power 2 n allowed .1)
 
 -- a fill that is answered `Done` has an allowed size and a slice of its length
-pub fill-passed : (n : ℕ) (w : List ℕ) {answer : Answer} → answer ≡ fillAnswer n w → answer ≡ Done → T (allowedSize 2 n) × (length w ≡ 2 * n)
+pub fill-passed : (n : ℕ) (w : List ℕ) {answer : Answer} → says answer ≡ fillAnswer n w → answer ≡ Done → T (allowedSize 2 n) × (length w ≡ 2 * n)
 fill-passed n w asked done =
-    let tests = done-passed (allowedSize 2 n) (lengthsFit (length w) (2 * n) 0 0) true true (sym asked ∙ done) in
+    let tests = done-passed (allowedSize 2 n) (lengthsFit (length w) (2 * n) 0 0) [] true asked done in
     (tests .0, fit-lengths (length w) (2 * n) 0 0 (tests .1) .0)

@@ -2,6 +2,7 @@
 // The public calls: `test_window` refuses by 1, 2, 3 and 4, in that order, and changes nothing. `flat_window` and `sine_window` fill a lent slice,
 // or refuse by 1 and 2, in that order, and then change nothing.
 ghost use mathlib.Core.Path.{_≡_};
+ghost use Rattle.answers.specs.Said.{says};
 ghost use mathlib.Core.List.{[]};
 ghost use Prim.Native.Nat.{_+_, _*_, _-_, _^_, _%_, _<_};
 ghost use lib.Dec.{T};
@@ -96,7 +97,7 @@ pub fn accepted(window: &[u32], n: usize) -> bool
 
 // Whether a window serves blocks of n. Done means that it is accepted.
 pub fn test_window(n: usize, window: &[u32]) -> Answer
-    ensures { λ r. ⌜ r ≡ windowAnswer n (now (window .entry)) ⌝ }
+    ensures { λ r. ⌜ says r ≡ windowAnswer n (now (window .entry)) ⌝ }
 {
     let answer = lending::entries_answer(2, n, window, 2, 0, 0);
     if let Answer::Done = answer {
@@ -128,14 +129,14 @@ fn arch(table: &[u32], n: usize, unit: usize, factor: u32, window: &mut [u32])
 
 // What a fill answers before it stores anything: 1 and 2, in that order. What the slice holds is not looked at.
 fn fill_answer(n: usize, window: &[u32]) -> Answer
-    ensures { λ r. ⌜ r ≡ fillAnswer n (now (window .entry)) ⌝ }
+    ensures { λ r. ⌜ says r ≡ fillAnswer n (now (window .entry)) ⌝ }
 {
     lending::lengths_answer(2, n, window.len(), 2, 0, 0)
 }
 
 // The flat window for blocks of n.
 pub fn flat_window(n: usize, window: &mut [u32]) -> Answer
-    ensures { λ r. ⌜ outcome r (now (window .exit)) [] ≡ filled flatWindow n (now (window .entry)) ⌝ }
+    ensures { λ r. ⌜ outcome (says r) (now (window .exit)) [] ≡ filled flatWindow n (now (window .entry)) ⌝ }
 {
     let answer = fill_answer(n, window);
     if let Answer::Done = answer {
@@ -146,7 +147,7 @@ pub fn flat_window(n: usize, window: &mut [u32]) -> Answer
 
 // The sine window for blocks of n.
 pub fn sine_window(n: usize, window: &mut [u32]) -> Answer
-    ensures { λ r. ⌜ outcome r (now (window .exit)) [] ≡ filled sineWindow n (now (window .entry)) ⌝ }
+    ensures { λ r. ⌜ outcome (says r) (now (window .exit)) [] ≡ filled sineWindow n (now (window .entry)) ⌝ }
 {
     let answer = fill_answer(n, window);
     if let Answer::Done = answer {

@@ -1,17 +1,17 @@
 -- `lending::entries_answer` meets its contract: where size and lengths are passed the residues decide. Assumes nothing.
-use Prim.Native.Nat.{_*_}
+use Prim.Native.Nat.{ℕ, _*_}
+use mathlib.Core.List.{List, [], _∷_}
 use mathlib.Core.Bool.{Bool, true, not}
-use mathlib.Core.Path.{_≡_, sym, _∙_}
+use mathlib.Core.Path.{_≡_, sym, _∙_, ap}
 use borrow.Author.Needs.{needs}
 use denote.Ref.{now}
 use lib.ListN.{length}
-use Rattle.answers.specs.Refuse.{transformAnswer, refuse}
-use Rattle.answers.specs.declared.Answer.the-variants.{Done}
-use Rattle.answers.specs.declared.Refusal.the-variants.{Residue}
-use Rattle.sums.specs.Bad.{soundEntries}
+use Rattle.answers.specs.Refuse.{refuse}
+use Rattle.answers.specs.Said.{accepted, says}
+use Rattle.sums.specs.Call.{transformAnswer}
 use Rattle.sums.specs.Lengths.{lengthsFit}
 use Rattle.sums.specs.Size.{allowedSize}
-use Rattle.lending.proofs.Tests.{past-lengths, lengths-refused}
+use Rattle.lending.proofs.Tests.{sound-one, past-lengths, lengths-refused}
 use Rattle.lending.proofs.entries_answer.Statement.{statement}
 use Rattle.lending.proofs.entries_answer.Tie as tie
 
@@ -22,24 +22,25 @@ module _ (c : tie.Start) where
   abbrev fit : Bool
   fit = lengthsFit (length (now (c .args .buffer))) (c .args .times * c .args .n) (c .args .scratch) (c .args .parts * c .args .n)
 
-  abbrev entries : Bool
-  entries = soundEntries (now (c .args .buffer))
+  abbrev entries : List (List ℕ)
+  entries = now (c .args .buffer) ∷ []
 
 -- the residues' own test decides
 decided : (c : tie.After-sound)
     → transformAnswer (size (c .before .before .before .before .before)) (fit (c .before .before .before .before .before)) (entries (c .before .before .before .before .before)) true
-    ≡ refuse (not (c .sound .result)) Residue Done
+    ≡ refuse (not (c .sound .result)) 3 (accepted [])
 decided c =
     let told = c .before in
     let asked = told .before .before in
     let start = asked .before .before in
-    past-lengths (size start) (fit start) (entries start) true (asked .lengths-answer .ensures) (told .enum-told .given .1) ∙ simp (c .sound .ensures)
+    past-lengths (size start) (fit start) (entries start) true (asked .lengths-answer .ensures) (told .enum-told .given .1)
+    ∙ ap (λ (s : Bool). refuse (not s) 3 (accepted [])) (sound-one (now (start .args .buffer)) ∙ sym (c .sound .ensures))
 
 returns : tie.Need-returns
 returns c = sym (decided (c .before) ∙ simp (c .if1 .taken))
 
 returns-2 : tie.Need-returns-2
-returns-2 c = c .before .before .enum-told .given .1 ∙ sym (decided (c .before) ∙ simp (c .if1 .left))
+returns-2 c = ap says (c .before .before .enum-told .given .1) ∙ sym (decided (c .before) ∙ simp (c .if1 .left))
 
 returns-3 : tie.Need-returns-3
 returns-3 c =

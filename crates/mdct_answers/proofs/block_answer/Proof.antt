@@ -1,12 +1,12 @@
 -- `mdct_answers::block_answer` meets its contract: each return rewrites the answer by the tests that led there. Assumes nothing.
 use mathlib.Core.Bool.{not}
+use mathlib.Core.List.{[]}
 use mathlib.Core.Path.{_≡_, sym, _∙_}
 use native.Mathlib.Omega.{arith}
 use borrow.Author.Needs.{needs}
 use denote.Ref.{now}
 use Rattle.answers.specs.Refuse.{refuse}
-use Rattle.answers.specs.declared.Answer.the-variants.{Done}
-use Rattle.answers.specs.declared.Refusal.the-variants.{Window}
+use Rattle.answers.specs.Said.{accepted}
 use Rattle.sums.proofs.Sizes.{allowed-small}
 use Rattle.lending.proofs.Lengths.{fit-block}
 use Rattle.lending.proofs.Tests.{passed}
@@ -49,7 +49,7 @@ accepted-requires c κs =
     let a = sized .before .before .before .before .before .before .args in (
       fit-block (a .parts) (a .n) _ _ _ _ (a .scratch) (passed (fitted .before .block-fits .ensures) (fitted .if2 .left)) .3,
       passed (sized .before .allowed-size .ensures) (sized .if1 .left),
-      window-sound (a .parts) (a .n) (now (a .a)) (now (a .b)) (now (a .c)) (now (a .window)) (a .scratch) (a .added)
+      window-sound (a .added) (now (a .a)) (now (a .b)) (now (a .c)) (now (a .window))
           (passed (c .before .block-sound .ensures) (c .if3 .left)),
     )
 
@@ -60,7 +60,7 @@ module _ (c : tie.After-accepted) where
 
   decided : blockAnswer (start .args .added) (start .args .parts) (start .args .n) (now (start .args .a)) (now (start .args .b)) (now (start .args .c)) (now (start .args .window))
       (start .args .scratch)
-      ≡ refuse (not (c .accepted .result)) Window Done
+      ≡ refuse (not (c .accepted .result)) 4 (accepted [])
   unfolding start
   decided =
       simp (

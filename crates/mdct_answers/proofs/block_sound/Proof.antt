@@ -1,6 +1,8 @@
 -- `mdct_answers::block_sound` meets its contract: each return rewrites the tests that led there. Assumes nothing.
 use borrow.Author.Needs.{needs}
 use borrow.Author.Tests.{not-true, not-false}
+use denote.Ref.{now}
+use Rattle.mdct_answers.proofs.Searched.{third-is}
 use Rattle.mdct_answers.proofs.block_sound.Statement.{statement}
 use Rattle.mdct_answers.proofs.block_sound.Tie as tie
 
@@ -13,7 +15,9 @@ returns-2 c =
 
 returns-3 : tie.Need-returns-3
 returns-3 c =
+    let a = c .before .before .before .before .before .before .before .before .before .before .args in
     simp (
+      third-is (a .added) (now (a .c)) (now (a .window)),
       ← c .before .before .before .before .before .sound .ensures,
       not-false (c .before .before .before .before .before .sound .result) (c .before .before .before .before .if1 .left),
       ← c .before .before .before .sound2 .ensures,
@@ -24,7 +28,9 @@ returns-3 c =
 
 returns-4 : tie.Need-returns-4
 returns-4 c =
+    let a = c .before .before .before .before .before .before .before .before .before .before .before .args in
     simp (
+      third-is (a .added) (now (a .c)) (now (a .window)),
       ← c .before .before .before .before .before .before .sound .ensures,
       not-false (c .before .before .before .before .before .before .sound .result) (c .before .before .before .before .before .if1 .left),
       ← c .before .before .before .before .sound2 .ensures,

@@ -1,20 +1,21 @@
 -- `window_residue::test_window` meets its contract: past the first three tests the window's own test decides. Assumes nothing.
-use Prim.Native.Nat.{_*_}
+use Prim.Native.Nat.{ℕ, _*_}
+use mathlib.Core.List.{List, [], _∷_}
 use mathlib.Core.Bool.{Bool, true, not}
-use mathlib.Core.Path.{_≡_, sym, _∙_}
+use mathlib.Core.Path.{_≡_, sym, _∙_, ap}
 use native.Mathlib.Nat.{zero-mul}
 use borrow.Author.Needs.{needs}
 use denote.Ref.{now}
 use lib.ListN.{length}
-use Rattle.answers.specs.Refuse.{transformAnswer, refuse}
-use Rattle.answers.specs.declared.Answer.the-variants.{Done}
-use Rattle.answers.specs.declared.Refusal.the-variants.{Window}
+use Rattle.answers.specs.Refuse.{refuse}
+use Rattle.answers.specs.Said.{accepted, says}
+use Rattle.ring.proofs.Below.{both-left}
 use Rattle.lending.proofs.Accepted.{done-passed}
 use Rattle.lending.proofs.Bad.{sound-residues}
 use Rattle.lending.proofs.Lengths.{fit-lengths}
 use Rattle.lending.proofs.Tests.{past-residues, residues-refused}
 use Rattle.sums.specs.Bad.{soundEntries}
-use Rattle.sums.specs.Call.{windowAnswer}
+use Rattle.sums.specs.Call.{transformAnswer, windowAnswer}
 use Rattle.sums.specs.Lengths.{lengthsFit}
 use Rattle.sums.specs.Size.{allowedSize}
 use Rattle.sums.specs.Window.{acceptedWindow}
@@ -28,27 +29,27 @@ module _ (c : tie.Start) where
   abbrev fit : Bool
   fit = lengthsFit (length (now (c .args .window))) (2 * c .args .n) 0 0
 
-  abbrev entries : Bool
-  entries = soundEntries (now (c .args .window))
+  abbrev entries : List (List ℕ)
+  entries = now (c .args .window) ∷ []
 
   abbrev rules : Bool
   rules = acceptedWindow (c .args .n) (now (c .args .window))
 
 -- what the first three tests were answered; no scratch is needed
 first-three : (c : tie.After-entries-answer)
-    → c .entries-answer .result ≡ transformAnswer (size (c .before .before)) (fit (c .before .before)) (entries (c .before .before)) true
+    → says (c .entries-answer .result) ≡ transformAnswer (size (c .before .before)) (fit (c .before .before)) (entries (c .before .before)) true
 first-three c = rw zero-mul at (c .entries-answer .ensures)
 
 accepted-requires : tie.Need-accepted-requires
 accepted-requires c κs =
     let asked = c .before .before in
     let start = asked .before .before in
-    let tests = done-passed (size start) (fit start) (entries start) true (sym (first-three asked) ∙ c .enum-told .given .1) in
-    (fit-lengths _ _ 0 0 (tests .1) .0, tests .0, sound-residues _ (tests .2))
+    let tests = done-passed (size start) (fit start) (entries start) true (first-three asked) (c .enum-told .given .1) in
+    (fit-lengths _ _ 0 0 (tests .1) .0, tests .0, sound-residues _ (both-left (soundEntries (now (start .args .window))) true (tests .2)))
 
 decided : (c : tie.After-accepted)
     → windowAnswer (c .before .before .before .before .before .args .n) (now (c .before .before .before .before .before .args .window))
-    ≡ refuse (not (c .accepted .result)) Window Done
+    ≡ refuse (not (c .accepted .result)) 4 (accepted [])
 decided c =
     let told = c .before in
     let asked = told .before .before in
@@ -60,7 +61,7 @@ returns : tie.Need-returns
 returns c = sym (decided (c .before) ∙ simp (c .if1 .taken))
 
 returns-2 : tie.Need-returns-2
-returns-2 c = c .before .before .enum-told .given .1 ∙ sym (decided (c .before) ∙ simp (c .if1 .left))
+returns-2 c = ap says (c .before .before .enum-told .given .1) ∙ sym (decided (c .before) ∙ simp (c .if1 .left))
 
 returns-3 : tie.Need-returns-3
 returns-3 c =

@@ -3,7 +3,7 @@ use mathlib.Core.Path.{_∙_, ap}
 use mathlib.Core.List.{[], _∷_}
 use Prim.Native.Nat.{ℕ}
 use borrow.Author.Needs.{needs}
-use Rattle.answers.specs.Number.{answerNumber}
+use Rattle.answers.specs.Said.{saidNumber}
 use Rattle.ring.specs.Finite.{tab}
 use Rattle.figures.proofs.Table.{figure-is}
 use Rattle.figures.proofs.figure.k.Statement.{statement}
@@ -12,7 +12,7 @@ use Rattle.figures.proofs.figure.k.Tie as tie
 returns : tie.Need-returns
 unfolding tab
 returns c =
-    ap (λ (n : ℕ). n ∷ []) (c .answer-number .ensures ∙ ap answerNumber (c .before .test-window .ensures)) ∙ figure-is 10
+    ap (λ (n : ℕ). n ∷ []) (c .answer-number .ensures ∙ ap saidNumber (c .before .test-window .ensures)) ∙ figure-is 10
 
 pub k-spec : {M : Type 1} → statement M
 k-spec =

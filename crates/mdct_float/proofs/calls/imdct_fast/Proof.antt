@@ -1,5 +1,4 @@
 -- `mdct_float::calls::imdct_fast` meets its contract: where the answer is `Done` the tests were passed and both outputs are added to; else nothing was changed. Assumes nothing.
-use mathlib.Core.Path.{sym, _∙_}
 use native.Mathlib.Omega.{arith}
 use Rattle.lending.proofs.Accepted.{spread-of-done, spread-of-refused}
 use Rattle.lending_float.proofs.Accepted.{fast-block}
@@ -9,7 +8,7 @@ use Rattle.mdct_float.proofs.calls.imdct_fast.Tie as tie
 imdct-requires : tie.Need-imdct-requires
 imdct-requires c κs =
     let told = c .before .before .before in
-    let passed = fast-block _ _ _ _ _ _ _ _ (sym (told .before .before .fast-block-answer .ensures) ∙ told .enum-told .given .1) in
+    let passed = fast-block _ _ _ _ _ _ _ _ (told .before .before .fast-block-answer .ensures) (told .enum-told .given .1) in
     record { size = passed .size; cosines-length = omega arith; sines-length = omega arith; block = omega arith }
 
 returns : tie.Need-returns

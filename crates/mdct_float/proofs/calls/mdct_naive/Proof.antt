@@ -9,7 +9,7 @@ use Rattle.mdct_float.proofs.calls.mdct_naive.Tie as tie
 mdct-requires : tie.Need-mdct-requires
 mdct-requires c κs =
     let told = c .before in
-    omega (arith, naive-block _ _ _ _ _ _ _ (sym (told .before .before .naive-block-answer .ensures) ∙ told .enum-told .given .1))
+    omega (arith, naive-block _ _ _ _ _ _ _ (told .before .before .naive-block-answer .ensures) (told .enum-told .given .1))
 
 returns : tie.Need-returns
 returns c =

@@ -1,13 +1,13 @@
 -- `mdct_naive_float::mdct_naive::add_second` meets its contract. The loop's invariant is `Added`: the entries passed have their sums added, and the others are as they were.
 -- The measure is the number of entries left. Assumes nothing.
+use mathlib.Core.Bool.{cond}
 use mathlib.Core.Logic.{⊎-elim}
 use mathlib.Core.Path.{_≡_, sym, _∙_, ap}
 use Prim.Native.Nat.{ℕ, _+_, _*_, _-_, _/_, _<_, _≤_}
 use native.Mathlib.Omega.{arith}
 use lib.Dec.{ltb}
-use Rattle.algorithms.specs.Lists.{choose}
 use Rattle.algorithms.specs.Block.{mirrored, naiveImdctSecond}
-use Rattle.algorithms.proofs.Lists.{choose-below}
+use Rattle.algorithms.proofs.Lists.{cond-below}
 use Rattle.floats.specs.Arithmetic.{floatOps}
 use Rattle.naive_float.specs.AngleSums.{angleSum}
 use Rattle.mdct_naive_float.proofs.Added.{Added, added-none, added-more, added-all}
@@ -15,8 +15,8 @@ use Rattle.mdct_naive_float.proofs.mdct_naive.add_second.Statement.{sta
 use Rattle.mdct_naive_float.proofs.mdct_naive.add_second.Tie as tie
 
 -- the index that either arm of the branch leaves
-mirrored-is : (n k m : ℕ) → (k < n / 2 → m ≡ k) → (n / 2 ≤ k → m ≡ n - 1 - k) → m ≡ choose (ltb k (n / 2)) k (n - 1 - k)
-mirrored-is n k m low high = sym (choose-below k (n / 2) k (n - 1 - k) m (λ l. sym (low l)) (λ h. sym (high h)))
+mirrored-is : (n k m : ℕ) → (k < n / 2 → m ≡ k) → (n / 2 ≤ k → m ≡ n - 1 - k) → m ≡ cond (ltb k (n / 2)) k (n - 1 - k)
+mirrored-is n k m low high = sym (cond-below k (n / 2) k (n - 1 - k) m (λ l. sym (low l)) (λ h. sym (high h)))
 
 abbrev Inv-loop : tie.InvT-loop
 Inv-loop n table input output₀ window k₀ output k =

@@ -1,5 +1,4 @@
 -- `mdct_residue::calls::imdct_fast` meets its contract: where the answer is `Done` the tests were passed and both outputs are added to; else nothing was changed. Assumes nothing.
-use mathlib.Core.Path.{sym, _∙_}
 use native.Mathlib.Omega.{arith}
 use borrow.Author.Needs.{needs}
 use denote.Ref.{now}
@@ -11,7 +10,7 @@ imdct-requires : tie.Need-imdct-requires
 imdct-requires c κs =
     let told = c .before .before .before in
     let a = told .before .before .before .before .before .before .before .before .before .before .args in
-    search (imdct-accepted _ _ (now (a .input)) (now (a .first)) (now (a .second)) (now (a .window)) _ (sym (told .before .before .imdct-answer .ensures) ∙ told .enum-told .given .1))
+    search (imdct-accepted _ _ (now (a .input)) (now (a .first)) (now (a .second)) (now (a .window)) _ (told .before .before .imdct-answer .ensures) (told .enum-told .given .1))
 
 returns : tie.Need-returns
 returns c =

@@ -1,5 +1,4 @@
 -- `mdct_residue::calls::mdct_fast` meets its contract: where the answer is `Done` the tests were passed and the output is its sum; else nothing was changed. Assumes nothing.
-use mathlib.Core.Path.{sym, _∙_}
 use native.Mathlib.Omega.{arith}
 use borrow.Author.Needs.{needs}
 use denote.Ref.{now}
@@ -11,7 +10,7 @@ mdct-requires : tie.Need-mdct-requires
 mdct-requires c κs =
     let told = c .before .before in
     let a = told .before .before .before .before .before .before .before .before .before .args in
-    search (mdct-accepted _ _ (now (a .first)) (now (a .second)) (now (a .output)) (now (a .window)) _ (sym (told .before .before .mdct-answer .ensures) ∙ told .enum-told .given .1))
+    search (mdct-accepted _ _ (now (a .first)) (now (a .second)) (now (a .output)) (now (a .window)) _ (told .before .before .mdct-answer .ensures) (told .enum-told .given .1))
 
 returns : tie.Need-returns
 returns c =

@@ -1,5 +1,4 @@
 -- `mdct_residue::calls::mdct_naive` meets its contract: where the answer is `Done` the tests were passed and the output is its sum; else nothing was changed. Assumes nothing.
-use mathlib.Core.Path.{sym, _∙_}
 use native.Mathlib.Omega.{arith}
 use borrow.Author.Needs.{needs}
 use denote.Ref.{now}
@@ -12,7 +11,7 @@ mdct-requires : tie.Need-mdct-requires
 mdct-requires c κs =
     let told = c .before in
     let a = told .before .before .before .before .before .before .before .before .before .args in
-    search (none-needed, mdct-accepted _ _ (now (a .first)) (now (a .second)) (now (a .output)) (now (a .window)) _ (sym (told .before .before .mdct-answer .ensures) ∙ told .enum-told .given .1))
+    search (none-needed, mdct-accepted _ _ (now (a .first)) (now (a .second)) (now (a .output)) (now (a .window)) _ (told .before .before .mdct-answer .ensures) (told .enum-told .given .1))
 
 -- refused only where that is promised
 returns-2 : tie.Need-returns-2

@@ -1,6 +1,8 @@
 -- `type2and3_residue::back::dct2_and_back` meets its contract by the outcomes of its two calls. Assumes nothing.
+use mathlib.Core.Path.{ap}
 use native.Mathlib.Omega.{arith}
 use denote.Ref.{now}
+use Rattle.answers.specs.Said.{says}
 use Rattle.sums.specs.Transform.{dct2Sum, dct3Sum, timesHalfLength}
 use Rattle.sums.proofs.Inverse.{dct3-of-dct2}
 use Rattle.sums.proofs.Outputs.{length-dct2, dct2-residues}
@@ -18,14 +20,14 @@ returns c =
     let there = told .before .before .before .before .before .before in
     let start = there .before .before .before .before .before in
     turns-done there-and-back 1 (start .args .n) (now (start .args .buffer)) (now (start .args .scratch)) (there .dct2-fast .ensures)
-    (told .enum-told .given .1)
+    (ap says (told .enum-told .given .1))
     (back .dct3-fast .ensures)
 
 returns-2 : tie.Need-returns-2
 returns-2 c =
     let there = c .before .before .before .before .before .before in
     let start = there .before .before .before .before .before in
-    turns-refused there-and-back 1 (start .args .n) (now (start .args .buffer)) (now (start .args .scratch)) (there .dct2-fast .ensures) _ (c .enum-told2 .given .1)
+    turns-refused there-and-back 1 (start .args .n) (now (start .args .buffer)) (now (start .args .scratch)) (there .dct2-fast .ensures) _ _ (ap says (c .enum-told2 .given .1))
 
 pub dct2-and-back-spec : {M : Type 1} → statement M
 dct2-and-back-spec =

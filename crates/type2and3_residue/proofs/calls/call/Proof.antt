@@ -1,6 +1,5 @@
 -- `type2and3_residue::calls::call` meets its contract: where the answer is `Done` the tests were passed and the transform was made, by either plan; else nothing was
 -- changed. Assumes nothing.
-use mathlib.Core.Path.{sym, _∙_}
 use native.Mathlib.Omega.{arith}
 use denote.Ref.{now}
 use Rattle.lending.proofs.Accepted.{answered-accepted, outcome-done, outcome-refused}
@@ -11,12 +10,12 @@ use Rattle.type2and3_residue.proofs.calls.call.Tie as tie
 transform-requires : tie.Need-transform-requires
 transform-requires c κs =
     let told = c .before .before .before .before in
-    answered-accepted 1 _ _ _ (sym (told .before .before .in-place-answer .ensures) ∙ told .enum-told .given .1)
+    answered-accepted 1 _ _ _ (told .before .before .in-place-answer .ensures) (told .enum-told .given .1)
 
 transform-requires-2 : tie.Need-transform-requires-2
 transform-requires-2 c κs =
     let told = c .before .before .before .before in
-    answered-accepted 1 _ _ _ (sym (told .before .before .in-place-answer .ensures) ∙ told .enum-told .given .1)
+    answered-accepted 1 _ _ _ (told .before .before .in-place-answer .ensures) (told .enum-told .given .1)
 
 returns : tie.Need-returns
 returns c =

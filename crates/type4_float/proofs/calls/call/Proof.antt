@@ -1,6 +1,5 @@
 -- `type4_float::calls::call` meets its contract: where the answer is `Done` the tests were passed and the transform was made; else nothing was changed.
 -- Assumes nothing.
-use mathlib.Core.Path.{sym, _∙_}
 use native.Mathlib.Omega.{arith}
 use denote.Ref.{now}
 use Rattle.floats.specs.Arithmetic.{floatZero, tableTwiddles}
@@ -13,7 +12,7 @@ use Rattle.type4_float.proofs.calls.call.Tie as tie
 transform-requires : tie.Need-transform-requires
 transform-requires c κs =
     let told = c .before .before in
-    fast-accepted 2 _ _ _ _ _ (sym (told .before .before .fast-answer .ensures) ∙ told .enum-told .given .1)
+    fast-accepted 2 _ _ _ _ _ (told .before .before .fast-answer .ensures) (told .enum-told .given .1)
 
 returns : tie.Need-returns
 returns c =

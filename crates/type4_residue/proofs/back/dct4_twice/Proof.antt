@@ -1,6 +1,8 @@
 -- `type4_residue::back::dct4_twice` meets its contract by the outcomes of its two calls. Assumes nothing.
+use mathlib.Core.Path.{ap}
 use native.Mathlib.Omega.{arith}
 use denote.Ref.{now}
+use Rattle.answers.specs.Said.{says}
 use Rattle.sums.specs.Transform.{dct4Sum, timesHalfLength}
 use Rattle.sums.proofs.Fourths.{dct4-twice}
 use Rattle.sums.proofs.Outputs.{length-dct4, dct4-residues}
@@ -18,14 +20,14 @@ returns c =
     let once = told .before .before .before .before .before .before in
     let start = once .before .before .before .before .before in
     turns-done twice 2 (start .args .n) (now (start .args .buffer)) (now (start .args .scratch)) (once .dct4-fast .ensures)
-    (told .enum-told .given .1)
+    (ap says (told .enum-told .given .1))
     (again .dct4-fast2 .ensures)
 
 returns-2 : tie.Need-returns-2
 returns-2 c =
     let once = c .before .before .before .before .before .before in
     let start = once .before .before .before .before .before in
-    turns-refused twice 2 (start .args .n) (now (start .args .buffer)) (now (start .args .scratch)) (once .dct4-fast .ensures) _ (c .enum-told2 .given .1)
+    turns-refused twice 2 (start .args .n) (now (start .args .buffer)) (now (start .args .scratch)) (once .dct4-fast .ensures) _ _ (ap says (c .enum-told2 .given .1))
 
 pub dct4-twice-spec : {M : Type 1} → statement M
 dct4-twice-spec =

@@ -1,5 +1,4 @@
 -- `type4_residue::calls::call` meets its contract: where the answer is `Done` the tests were passed and the transform was made; else nothing was changed. Assumes nothing.
-use mathlib.Core.Path.{sym, _∙_}
 use native.Mathlib.Omega.{arith}
 use denote.Ref.{now}
 use Rattle.lending.proofs.Accepted.{answered-accepted, outcome-done, outcome-refused}
@@ -10,7 +9,7 @@ use Rattle.type4_residue.proofs.calls.call.Tie as tie
 transform-requires : tie.Need-transform-requires
 transform-requires c κs =
     let told = c .before .before in
-    answered-accepted 2 _ _ _ (sym (told .before .before .in-place-answer .ensures) ∙ told .enum-told .given .1)
+    answered-accepted 2 _ _ _ (told .before .before .in-place-answer .ensures) (told .enum-told .given .1)
 
 returns : tie.Need-returns
 returns c =
