@@ -13,6 +13,8 @@ pub mod Fold
 pub mod Block
 pub mod Windows
 pub mod Sizes
+pub mod Plus
+pub mod AnyOrder
 pub mod Pooled
 pub mod Whole
 pub mod Curve

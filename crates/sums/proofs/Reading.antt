@@ -12,19 +12,18 @@ use Rattle.sums.specs.Signed.{residueOf, signedOf}
 use Rattle.sums.specs.Size.{allowedSize}
 use Rattle.sums.specs.Window.{acceptedWindow}
 use Rattle.sums.specs.Shots.{Each, Samples}
-use Rattle.sums.specs.Curve.{curveOf, total, pooled, pooledBlocks, residuesOf, readingOf, wholeTotal}
-use Rattle.sums.proofs.Outputs.{outputs-residues}
-use Rattle.sums.proofs.Pooled.{blocks-pooled, length-pooled}
+use Rattle.sums.specs.Curve.{curveOf, pooled, pooledBlocks, residuesOf, readingOf, wholeTotal}
+use Rattle.sums.proofs.AnyOrder.{length-pooled, pooled-residues}
+use Rattle.sums.proofs.Pooled.{blocks-pooled}
 use Rattle.sums.proofs.Whole.{each-map, each-kept, pooled-whole, whole-total-within}
 use Rattle.sums.proofs.Curve.{curve-returns}
 
 -- the blocks of several shots, added up, give the shots added up entry by entry, modulo p
 pub curve-pooled : (N S : ℕ) (w : List ℕ) (shots : List (List ℕ)) → T (allowedSize 2 N) → T (acceptedWindow N w)
     → Each (λ shot. length shot ≡ S * N) shots → curveOf N S w (pooledBlocks N S w shots) ≡ pooled (S * N) shots
-unfolding pooled
 curve-pooled N S w shots size accepted long =
     ap (curveOf N S w) (blocks-pooled N S w shots long)
-    ∙ curve-returns N S w (pooled (S * N) shots) size accepted (length-pooled (S * N) shots) (outputs-residues (S * N) (total shots))
+    ∙ curve-returns N S w (pooled (S * N) shots) size accepted (length-pooled (S * N) shots) (pooled-residues (S * N) shots)
 
 -- and the sum read as whole numbers is exact, wherever it is within half of p: the reading is the shots' samples added up
 pub curve-exact : (N S : ℕ) (w : List ℕ) (shots : List (List ℤ)) → T (allowedSize 2 N) → T (acceptedWindow N w)

@@ -4,6 +4,7 @@ use mathlib.Core.List.{List, [], _∷_, _++_, map}
 use Prim.Native.Nat.{ℕ, zero, suc, _+_, _*_}
 use lib.ListN.{getD, take, drop, replicate}
 use lib.IntN.{ℤ, pos, _+ℤ_}
+use Rattle.sums.specs.Residue.{minusOne}
 use Rattle.sums.specs.Signed.{residueOf, signedOf}
 use Rattle.sums.specs.Transform.{entry, outputs, mdctSum, imdctSum}
 
@@ -43,6 +44,14 @@ pooled n lists = outputs n (total lists)
 -- the blocks of several shots of S segments, added up
 unfoldable pub pooledBlocks : ℕ → ℕ → List ℕ → List (List ℕ) → List ℕ
 pooledBlocks N S w shots = pooled (suc S * N) (map (blocksOf N S w) shots)
+
+-- coefficients plus a shot's blocks, entry by entry modulo p: what adding leaves
+unfoldable pub plus : ℕ → List ℕ → List ℕ → List ℕ
+plus n x y = outputs n (λ k. entry x k + entry y k)
+
+-- coefficients minus a shot's blocks, likewise: what withdrawing leaves
+unfoldable pub minus : ℕ → List ℕ → List ℕ → List ℕ
+minus n x y = outputs n (λ k. entry x k + minusOne * entry y k)
 
 -- a shot's samples as residues, and the curve of blocks read as whole numbers
 abbrev pub residuesOf : List ℤ → List ℕ
