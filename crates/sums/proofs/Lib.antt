@@ -18,6 +18,7 @@ pub mod AnyOrder
 pub mod Pooled
 pub mod Whole
 pub mod Curve
+pub mod Locality
 pub mod Reading
 pub mod Figures
 pub mod Outcomes

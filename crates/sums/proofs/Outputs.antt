@@ -17,11 +17,14 @@ abbrev pub residues : List ℕ → ℕ → Residue p
 residues x i = of p (entry x i)
 
 -- where one list follows another of n entries
+pub entry-after : (n : ℕ) (x y : List ℕ) → length x ≡ n → (i : ℕ) → entry (x ++ y) (n + i) ≡ entry y i
+entry-after n x y e i = ap (λ (m : ℕ). entry (x ++ y) (m + i)) (sym e) ∙ getD-append-add x y i 0
+
 pub residues-front : (n : ℕ) (x y : List ℕ) → length x ≡ n → (i : ℕ) → i < n → residues (x ++ y) i ≡ residues x i
 residues-front n x y e i l = ap (of p) (List·getD-append x y 0 i (omega arith))
 
 pub residues-after : (n : ℕ) (x y : List ℕ) → length x ≡ n → (i : ℕ) → residues (x ++ y) (n + i) ≡ residues y i
-residues-after n x y e i = ap (λ (m : ℕ). residues (x ++ y) (m + i)) (sym e) ∙ ap (of p) (getD-append-add x y i 0)
+residues-after n x y e i = ap (of p) (entry-after n x y e i)
 
 -- an entry of a list of outputs, as a residue
 pub of-output : (n : ℕ) (f : ℕ → ℕ) (k : ℕ) → k < n → of p (entry (outputs n f) k) ≡ of p (f k)

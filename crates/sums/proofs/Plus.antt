@@ -6,7 +6,7 @@ use mathlib.Core.List.{List, [], _∷_, _++_}
 use Prim.Native.Nat.{ℕ, _+_, _*_, _%_, _<_}
 use native.Mathlib.Omega.{arith}
 use lib.ListN.{length, take, drop, getD-replicate, length-replicate, List·getD-append}
-use lib.Seq.{take-at, drop-at, getD-take, getD-drop, getD-append-add}
+use lib.Seq.{take-at, drop-at, getD-take, getD-drop}
 use Rattle.ring.proofs.Solve.{ring, var, _:+_, :-_}
 use Rattle.ring.proofs.Table.{length-tab, is-tab, tab-ext, tab-append}
 use Rattle.ring.proofs.Modular.{of-add}
@@ -14,7 +14,7 @@ use Rattle.sums.specs.Residue.{p, minusOne, Residues}
 use Rattle.sums.specs.Transform.{entry}
 use Rattle.sums.specs.Curve.{quiet, plus, minus}
 use Rattle.sums.proofs.Constants.{above, Zp, of-minus}
-use Rattle.sums.proofs.Outputs.{residues, of-output, outputs-residues, residues-only}
+use Rattle.sums.proofs.Outputs.{entry-after, residues, of-output, outputs-residues, residues-only}
 
 module _ (n : ℕ) (x y : List ℕ) where
   pub of-plus : (k : ℕ) → k < n → residues (plus n x y) k ≡ Zp .add (residues x k) (residues y k)
@@ -66,11 +66,8 @@ module _ (m n : ℕ) where
   plus-append a b x y la lb =
       ap₂ _++_
       (tab-ext m (λ k l. ap₂ (λ (u v : ℕ). (u + v) % p) (sym (List·getD-append a x 0 k (omega arith))) (sym (List·getD-append b y 0 k (omega arith)))))
-      (tab-ext n (λ k l. ap₂ (λ (u v : ℕ). (u + v) % p) (sym (after a x k la)) (sym (after b y k lb))))
+      (tab-ext n (λ k l. ap₂ (λ (u v : ℕ). (u + v) % p) (sym (entry-after m a x la k)) (sym (entry-after m b y lb k))))
       ∙ sym (tab-append m n (λ k. (entry (a ++ x) k + entry (b ++ y) k) % p))
-    where
-      after : (a x : List ℕ) (k : ℕ) → length a ≡ m → entry (a ++ x) (m + k) ≡ entry x k
-      after a x k la = ap (λ (i : ℕ). entry (a ++ x) (i + k)) (sym la) ∙ getD-append-add a x k 0
 
   module _ (x y : List ℕ) where
     parts : plus (m + n) x y ≡ plus m (take m x) (take m y) ++ plus n (drop m x) (drop m y)

@@ -1,12 +1,13 @@
--- Document 01, "The tray": the blocks of a curve, the curve that blocks give, and sums of both. A curve of S segments of N entries is a list of S · N,
--- its S + 1 blocks a list of (S + 1) · N. Assumes nothing.
+-- Document 01, "The tray": the blocks of a curve, the curve that blocks give, one entry of it, and sums of both. A curve of S segments of N entries is a
+-- list of S · N, its S + 1 blocks a list of (S + 1) · N. Assumes nothing.
 use mathlib.Core.List.{List, [], _∷_, _++_, map}
-use Prim.Native.Nat.{ℕ, zero, suc, _+_, _*_}
+use Prim.Native.Nat.{ℕ, zero, suc, _+_, _*_, _%_}
 use lib.ListN.{getD, take, drop, replicate}
 use lib.IntN.{ℤ, pos, _+ℤ_}
-use Rattle.sums.specs.Residue.{minusOne}
+use Rattle.sums.specs.Residue.{p, minusOne}
 use Rattle.sums.specs.Signed.{residueOf, signedOf}
-use Rattle.sums.specs.Transform.{entry, outputs, mdctSum, imdctSum}
+use Rattle.sums.specs.Angle.{cosTurn}
+use Rattle.sums.specs.Transform.{sum, entry, outputs, mdctSum, imdctSum}
 
 -- a zero segment
 abbrev pub quiet : ℕ → List ℕ
@@ -31,6 +32,22 @@ overlapped N w (suc n) held X =
 -- the curve that the S + 1 blocks X give: their overlapped IMDCTs without the two padding segments
 unfoldable pub curveOf : ℕ → ℕ → List ℕ → List ℕ → List ℕ
 curveOf N S w X = drop N (overlapped N w (suc S) (quiet N) X)
+
+-- segment t of a list of segments of N entries
+abbrev pub segment : {A : Type 0} → ℕ → ℕ → List A → List A
+segment N t x = take N (drop (t * N) x)
+
+-- what the IMDCT of the block X adds at place n of its two segments: w_n Σ_k X_k cos(π(2n+1+N)(2k+1)/(4N))
+unfoldable pub blockGives : ℕ → List ℕ → List ℕ → ℕ → ℕ
+blockGives N w X n = entry w n * sum N (λ k. entry X k * cosTurn ((2 * n + 1 + N) * (2 * k + 1)) (8 * N))
+
+-- what it leaves in the second of them, which was zero
+unfoldable pub blockLeaves : ℕ → List ℕ → List ℕ → List ℕ
+blockLeaves N w X = outputs N (λ n. blockGives N w X (N + n))
+
+-- entry n of the segment in which the block X ends and the next one, Y, begins
+unfoldable pub curveEntry : ℕ → List ℕ → List ℕ → List ℕ → ℕ → ℕ
+curveEntry N w X Y n = (blockGives N w X (N + n) + blockGives N w Y n) % p
 
 -- entry k of each list, added up
 unfoldable pub total : List (List ℕ) → ℕ → ℕ
