@@ -1,5 +1,5 @@
 -- The order of a turn's root: where 1 and −1 differ and n is a power of two, no power of the root below the 4n-th is 1. Assumes nothing.
-use mathlib.Core.Path.{_≡_, refl, sym, _∙_, ap, ap₂}
+use mathlib.Core.Path.{_≡_, refl, sym, _∙_, ap}
 use Prim.Native.Nat.{ℕ, zero, suc, _+_, _*_, _^_, _<_}
 use native.Mathlib.Nat as Nat
 use native.Mathlib.Omega.{arith}
@@ -11,13 +11,6 @@ use Rattle.ring.proofs.Turn.{Turn}
 use Rattle.ring.proofs.Parity.{Parity, even, odd, parity}
 
 module _ {C : Type 0} (R : Ring C) where
-  -- a whole turn is 1
-  pub whole-turn : (n : ℕ) (W : Turn R n) → Ring.pow R (W .root) (4 * n) ≡ R .one
-  whole-turn n W =
-      let h : 4 * n ≡ 2 * n + 2 * n = omega arith in
-      ap (Ring.pow R (W .root)) h ∙ Ring.pow-add R (W .root) (2 * n) (2 * n) ∙ ap₂ (R .mul) (W .half-turn) (W .half-turn)
-      ∙ Ring.neg-mul-neg R (R .one) (R .one) ∙ R .one-mul (R .one)
-
   odd-power : (n : ℕ) (W : Turn R n) (u : ℕ) → Ring.pow R (W .root) (2 * u + 1) ≡ R .one → R .one ≡ R .neg (R .one)
   odd-power n W u h =
       let turns : (2 * u + 1) * (2 * n) ≡ 2 * n * (2 * u + 1) = Nat.mul-comm (2 * u + 1) (2 * n) in

@@ -97,14 +97,6 @@ module _ {C : Type 0} (R : Ring C) where
   num zero = 𝟘
   num (suc n) = num n ⊕ 𝟙
 
-  pub num-one : num 1 ≡ 𝟙
-  unfolding num
-  num-one = R .nought-add 𝟙
-
-  pub num-suc : (n : ℕ) → num (suc n) ≡ num n ⊕ 𝟙
-  unfolding num
-  num-suc n = refl
-
   pub num-add : (m n : ℕ) → num (m + n) ≡ num m ⊕ num n
   unfolding num
   num-add m zero = ap num (Nat.add-zero m) ∙ sym (add-nought (num m))

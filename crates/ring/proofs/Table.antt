@@ -35,10 +35,6 @@ module _ {A : Type 0} where
       let rest : tab n (λ k. f (suc k)) ≡ tab n (λ k. h (suc k)) = tab-ext n (λ k below. same (suc k) (omega arith)) in
       cc
 
-  -- any list is the table of its entries
-  pub list-is-tab : (d : A) (xs : List A) → xs ≡ tab (length xs) (λ k. getD xs k d)
-  list-is-tab d xs = is-tab d xs (length xs) refl (λ k below. refl)
-
   -- one entry more, at the end
   pub tab-more : (n : ℕ) (f : ℕ → A) → tab (suc n) f ≡ tab n f ++ (f n ∷ [])
   unfolding tab

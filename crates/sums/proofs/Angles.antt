@@ -1,9 +1,9 @@
 -- Document 01's cos and sin over residues obey the laws of angles. Each is carried over from the turn of 8192 units over residues:
 -- `of-cos` and `of-sin` say that the definitions are that turn's cs and sn.
 -- Divisions: cos-divided, sin-divided. Sums: cos-add, sin-add, square-sum. Shifts: cos-turn, sin-turn, cos-half-turn, sin-half-turn,
--- sin-is-cos, cos-mod, sin-mod. Reflections: cos-opposite, sin-opposite, cos-quarter-less, sin-mirror. Assumes nothing.
+-- sin-is-cos. Reflections: cos-opposite, sin-opposite, cos-quarter-less, sin-mirror. Assumes nothing.
 use mathlib.Core.Path.{_≡_, sym, _∙_, ap, ap₂}
-use Prim.Native.Nat.{ℕ, _+_, _*_, _^_, _%_, _/_, _<_}
+use Prim.Native.Nat.{ℕ, _+_, _*_, _^_, _%_, _<_}
 use native.Mathlib.Nat as Nat
 use native.Mathlib.Omega.{arith}
 use Rattle.ring.proofs.Ring as Ring
@@ -108,9 +108,6 @@ module _ (F : ℕ → ℕ) (f : ℕ → Residue p) (is : (k : ℕ) → of p (F k
       ∙ Zp .one-mul (f k) ∙ sym (is k))
       ∙ reduced k
 
-  turns-dropped : (k : ℕ) → F (k % 8192) ≡ F k
-  turns-dropped k = sym (whole-turns-more (k % 8192) (k / 8192)) ∙ ap F (Nat.mod-add-div k 8192)
-
 pub cos-half-turn : (k : ℕ) → cosOf (k + 4096) ≡ minusOne * cosOf k % p
 cos-half-turn = half-turn-more cosOf cosine of-cos cos-reduced (Turn.cs-turns Zp 2048 turn)
 
@@ -122,12 +119,6 @@ cos-turn = whole-turns-more cosOf cosine of-cos cos-reduced (Turn.cs-turns Zp 20
 
 pub sin-turn : (k t : ℕ) → sinOf (k + 8192 * t) ≡ sinOf k
 sin-turn = whole-turns-more sinOf sine of-sin sin-reduced (Turn.sn-turns Zp 2048 turn)
-
-pub cos-mod : (k : ℕ) → cosOf (k % 8192) ≡ cosOf k
-cos-mod = turns-dropped cosOf cosine of-cos cos-reduced (Turn.cs-turns Zp 2048 turn)
-
-pub sin-mod : (k : ℕ) → sinOf (k % 8192) ≡ sinOf k
-sin-mod = turns-dropped sinOf sine of-sin sin-reduced (Turn.sn-turns Zp 2048 turn)
 
 pub sin-is-cos : (k : ℕ) → sinOf k ≡ cosOf (k + 6144)
 sin-is-cos k =

@@ -1,7 +1,7 @@
 -- Document 01, "The tray": segment t of the curve is made of the blocks t and t + 1 alone, whatever the other coefficients are. At any N, under any window.
 -- What one block leaves: block-leaves. The length: length-curve. Segment t: curve-segment, curve-local. Its entries: curve-at, reading-at.
 -- For a loop that writes segment after segment, by what is written and what is left: curve-begins, overlapped-steps, curve-ends. Assumes nothing.
-use mathlib.Core.Path.{_≡_, refl, sym, _∙_, ap, ap₂}
+use mathlib.Core.Path.{_≡_, sym, _∙_, ap, ap₂}
 use mathlib.Core.List.{List, _++_, append-assoc, append-nil}
 use Prim.Native.Nat.{ℕ, zero, suc, _+_, _*_, _%_, _<_}
 use native.Mathlib.Nat as Nat

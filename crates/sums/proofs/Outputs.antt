@@ -77,10 +77,6 @@ pub dct2-residues : (x : List ℕ) → Residues (dct2Sum x)
 unfolding dct2Sum
 dct2-residues x = outputs-residues (length x) _
 
-pub dst2-residues : (x : List ℕ) → Residues (dst2Sum x)
-unfolding dst2Sum
-dst2-residues x = outputs-residues (length x) _
-
 pub dct3-residues : (x : List ℕ) → Residues (dct3Sum x)
 unfolding dct3Sum
 dct3-residues x = outputs-residues (length x) _
