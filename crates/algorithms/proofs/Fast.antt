@@ -14,7 +14,7 @@ use Rattle.algorithms.specs.Ops.{Ops, Twiddles}
 use Rattle.algorithms.specs.Lists.{alternated, reversed}
 use Rattle.algorithms.specs.Naive.{naiveDct2, naiveDst2, naiveDct3, naiveDst3}
 use Rattle.algorithms.specs.Split.{inputDct2, inputDct4Even, inputDct4Odd, mergeTwo, inputEvens, inputOne, inputThree, mergeThree, splitDct2, splitDst2, splitDct3, splitDst3}
-use Rattle.algorithms.specs.Four.{leftDct4, rightDct4, leftDst4, rightDst4, mergeDct4, mergeDst4, fastDct4, fastDst4}
+use Rattle.algorithms.specs.Four.{leftDct4, rightDct4, leftDst4, rightDst4, mergeDct4, mergeDst4, dct4By, dst4By, fastDct4, fastDst4}
 use Rattle.algorithms.specs.Fast.{dct2Fast, dst2Fast, dct3Fast, dst3Fast, dct4Fast, dst4Fast}
 use Rattle.algorithms.proofs.Lists.{length-there-back, length-quarters, length-reversed, length-alternated}
 use Rattle.algorithms.proofs.Inputs.{length-half, length-cosines, length-sines, length-evens, length-one, length-three}
@@ -156,7 +156,7 @@ module _ {A : Type 0} (O : Ops A) (W : Twiddles A) (x : List A) where
     sines-of y as-many = by-exponent (splitDst3 O W) (naiveDst3 O W) y k (omega arith) (as-many ∙ power)
 
     pub dct4-merged : dct4Fast O W x ≡ mergeDct4 O W m (dct3Fast O W (leftDct4 O m x)) (dst3Fast O W (rightDct4 O m x))
-    unfolding dct4Fast fastDct4
+    unfolding dct4Fast fastDct4 dct4By
     dct4-merged =
         let left = cosines-of (leftDct4 O m x) (length-left-dct4 O m x) in
         let right = sines-of (rightDct4 O m x) (length-right-dct4 O m x) in
@@ -165,7 +165,7 @@ module _ {A : Type 0} (O : Ops A) (W : Twiddles A) (x : List A) where
         ∙ (λ i. mergeDct4 O W m (sym left i) (sym right i))
 
     pub dst4-merged : dst4Fast O W x ≡ mergeDst4 O W m (dst3Fast O W (leftDst4 O m x)) (dct3Fast O W (rightDst4 O m x))
-    unfolding dst4Fast fastDst4
+    unfolding dst4Fast fastDst4 dst4By
     dst4-merged =
         let left = sines-of (leftDst4 O m x) (length-left-dst4 O m x) in
         let right = cosines-of (rightDst4 O m x) (length-right-dst4 O m x) in

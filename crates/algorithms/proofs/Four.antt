@@ -21,7 +21,7 @@ use Rattle.sums.proofs.Constants.{Zp}
 use Rattle.sums.proofs.Fourths.{of-dct4, of-dst4}
 use Rattle.sums.proofs.Lengths.{Length, turnAt, type4-length}
 use Rattle.sums.proofs.Outputs.{residues, length-dct4, dct4-residues, length-dst4, dst4-residues}
-use Rattle.algorithms.specs.Four.{lastDoubled, firstDoubled, leftDct4, rightDct4, leftDst4, rightDst4, output, mirroredDct4, mirroredDst4, mergeDct4, mergeDst4, fastDct4, fastDst4}
+use Rattle.algorithms.specs.Four.{lastDoubled, firstDoubled, leftDct4, rightDct4, leftDst4, rightDst4, output, mirroredDct4, mirroredDst4, mergeDct4, mergeDst4, dct4By, dst4By, fastDct4, fastDst4}
 use Rattle.algorithms.specs.Lists.{reversed}
 use Rattle.algorithms.specs.Ops.{Ops, at}
 use Rattle.algorithms.specs.Residues.{residueOps, residueTwiddles}
@@ -207,18 +207,27 @@ pub dst4-merged : (m : ℕ) → Length (4 * m) → (x : List ℕ) → length x �
 dst4-merged zero L x N = absurd (Nat.lt-irrefl 0 (omega (arith, L .whole)))
 dst4-merged (suc r) L x N = dst4-is r L x N
 
+-- over two inner routines that are the sums at m entries, the routines are the sums at 2m
+module _ (dct3 dst3 : List ℕ → List ℕ) (m : ℕ) (L : Length (4 * m)) (dct3-is : (y : List ℕ) → length y ≡ m → dct3 y ≡ dct3Sum y)
+    (dst3-is : (y : List ℕ) → length y ≡ m → dst3 y ≡ dst3Sum y) (x : List ℕ) (N : length x ≡ 2 * m) where
+  pub dct4-by-is : dct4By residueOps residueTwiddles dct3 dst3 m x ≡ dct4Sum x
+  unfolding dct4By
+  dct4-by-is =
+      ap₂ (mergeDct4 residueOps residueTwiddles m) (dct3-is (leftDct4 residueOps m x) (length-left-dct4 residueOps m x))
+      (dst3-is (rightDct4 residueOps m x) (length-right-dct4 residueOps m x))
+      ∙ dct4-merged m L x N
+
+  pub dst4-by-is : dst4By residueOps residueTwiddles dct3 dst3 m x ≡ dst4Sum x
+  unfolding dst4By
+  dst4-by-is =
+      ap₂ (mergeDst4 residueOps residueTwiddles m) (dst3-is (leftDst4 residueOps m x) (length-left-dst4 residueOps m x))
+      (dct3-is (rightDst4 residueOps m x) (length-right-dst4 residueOps m x))
+      ∙ dst4-merged m L x N
+
 pub fast-dct4-is : (k : ℕ) → k ≤ 9 → (x : List ℕ) → length x ≡ 2 * 2 ^ k → fastDct4 residueOps residueTwiddles k x ≡ dct4Sum x
 unfolding fastDct4
-fast-dct4-is k small x N =
-    ap₂ (mergeDct4 residueOps residueTwiddles (2 ^ k))
-    (split-dct3-is k (omega arith) (leftDct4 residueOps (2 ^ k) x) (length-left-dct4 residueOps (2 ^ k) x))
-    (split-dst3-is k (omega arith) (rightDct4 residueOps (2 ^ k) x) (length-right-dct4 residueOps (2 ^ k) x))
-    ∙ dct4-merged (2 ^ k) (type4-length k small) x N
+fast-dct4-is k small = dct4-by-is _ _ (2 ^ k) (type4-length k small) (split-dct3-is k (omega arith)) (split-dst3-is k (omega arith))
 
 pub fast-dst4-is : (k : ℕ) → k ≤ 9 → (x : List ℕ) → length x ≡ 2 * 2 ^ k → fastDst4 residueOps residueTwiddles k x ≡ dst4Sum x
 unfolding fastDst4
-fast-dst4-is k small x N =
-    ap₂ (mergeDst4 residueOps residueTwiddles (2 ^ k))
-    (split-dst3-is k (omega arith) (leftDst4 residueOps (2 ^ k) x) (length-left-dst4 residueOps (2 ^ k) x))
-    (split-dct3-is k (omega arith) (rightDst4 residueOps (2 ^ k) x) (length-right-dst4 residueOps (2 ^ k) x))
-    ∙ dst4-merged (2 ^ k) (type4-length k small) x N
+fast-dst4-is k small = dst4-by-is _ _ (2 ^ k) (type4-length k small) (split-dct3-is k (omega arith)) (split-dst3-is k (omega arith))

@@ -53,9 +53,17 @@ module _ {A : Type 0} (O : Ops A) (W : Twiddles A) where
     unfoldable pub mergeDst4 : List A
     mergeDst4 = tab m output ++ back m mirroredDst4
 
-  -- the routines, of 2 · 2^k entries
+  -- the routines, of 2m entries, over any two that serve as the DCT-III and the DST-III of m entries: the Rust's inner_dct
+  module _ (dct3 dst3 : List A → List A) (m : ℕ) (x : List A) where
+    unfoldable pub dct4By : List A
+    dct4By = mergeDct4 m (dct3 (leftDct4 O m x)) (dst3 (rightDct4 O m x))
+
+    unfoldable pub dst4By : List A
+    dst4By = mergeDst4 m (dst3 (leftDst4 O m x)) (dct3 (rightDst4 O m x))
+
+  -- over split radix, of 2 · 2^k entries
   unfoldable pub fastDct4 : ℕ → List A → List A
-  fastDct4 k x = mergeDct4 (2 ^ k) (splitDct3 O W k (leftDct4 O (2 ^ k) x)) (splitDst3 O W k (rightDct4 O (2 ^ k) x))
+  fastDct4 k x = dct4By (splitDct3 O W k) (splitDst3 O W k) (2 ^ k) x
 
   unfoldable pub fastDst4 : ℕ → List A → List A
-  fastDst4 k x = mergeDst4 (2 ^ k) (splitDst3 O W k (leftDst4 O (2 ^ k) x)) (splitDct3 O W k (rightDst4 O (2 ^ k) x))
+  fastDst4 k x = dst4By (splitDct3 O W k) (splitDst3 O W k) (2 ^ k) x

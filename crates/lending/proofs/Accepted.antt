@@ -1,4 +1,4 @@
--- A call that is answered `Done` has passed its tests (done-passed; in place answered-accepted, accepted-answered), and its length is at most 1024 (accepted-small). A call
+-- A call that is answered `Done` has passed its tests (done-passed; of one slice entries-passed; in place answered-accepted, accepted-answered), also where the sizes begin sooner (accepted-sooner), and its length is at most 1024 (accepted-small). A call
 -- that does its work exactly where it is answered so has the outcome that is promised (outcome-of-done, outcome-of-refused; spread-of-done, spread-of-refused; outcome-done, outcome-refused). Assumes nothing.
 use mathlib.Core.Bool.{Bool, true, false, not}
 use mathlib.Core.List.{List, [], _∷_}
@@ -18,6 +18,7 @@ use Rattle.ring.specs.Part.{cleared}
 use Rattle.sums.specs.Bad.{soundEntries, soundSlices}
 use Rattle.sums.specs.Call.{transformAnswer, inPlaceAnswer, outcome, outcomeOf, inPlace, spread, spreadOf}
 use Rattle.sums.specs.Lengths.{lengthsFit}
+use Rattle.sums.specs.Residue.{Residues}
 use Rattle.sums.specs.Size.{allowedSize}
 use Rattle.sums.proofs.Sizes.{allowed-exponent, exponent-allowed}
 use Rattle.lending.specs.Accepted.{Accepted}
@@ -43,21 +44,41 @@ pub done-passed : (size lengths : Bool) (searched : List (List ℕ)) (window : B
 done-passed size lengths searched window asked done =
     all-passed size lengths (soundSlices searched) window (subst (λ (s : Said). T (isAccepted s)) (sym (ap says done) ∙ asked) tt)
 
+-- a call that looks at one slice
+pub entries-passed : (least n wanted scratchLength needed : ℕ) (buffer : List ℕ) {answer : Answer}
+    → says answer ≡ transformAnswer (allowedSize least n) (lengthsFit (length buffer) wanted scratchLength needed) (buffer ∷ []) true → answer ≡ Done
+    → T (allowedSize least n) × (length buffer ≡ wanted) × (needed ≤ scratchLength) × Residues buffer
+entries-passed least n wanted scratchLength needed buffer asked done =
+    let tests = done-passed (allowedSize least n) (lengthsFit (length buffer) wanted scratchLength needed) (buffer ∷ []) true asked done in
+    let fit = fit-lengths (length buffer) wanted scratchLength needed (tests .1) in
+    (tests .0, fit .0, fit .1, sound-residues buffer (both-left (soundEntries buffer) true (tests .2)))
+
 pub answered-accepted : (least n : ℕ) (buffer : List ℕ) (scratchLength : ℕ) {answer : Answer} → says answer ≡ inPlaceAnswer least n buffer scratchLength
     → answer ≡ Done → Accepted least n buffer scratchLength
 answered-accepted least n buffer scratchLength asked done =
-    let tests = done-passed (allowedSize least n) (lengthsFit (length buffer) n scratchLength n) (buffer ∷ []) true asked done in
+    let tests = entries-passed least n n scratchLength n buffer asked done in
     let size = allowed-exponent least n (tests .0) in
-    let fit = fit-lengths (length buffer) n scratchLength n (tests .1) in
     record {
       exponent = size .0;
       small = size .1;
       power = size .2;
       enough = size .3;
-      whole = fit .0;
-      room = fit .1;
-      residues = sound-residues buffer (both-left (soundEntries buffer) true (tests .2));
+      whole = tests .1;
+      room = tests .2;
+      residues = tests .3;
     }
+
+-- what begins later is accepted by what begins sooner
+pub accepted-sooner : {least later n k : ℕ} {buffer : List ℕ} → Accepted later n buffer k → least ≤ later → Accepted least n buffer k
+accepted-sooner a sooner = record {
+  exponent = a .exponent;
+  small = a .small;
+  power = a .power;
+  enough = omega (arith, sooner, a .enough);
+  whole = a .whole;
+  room = a .room;
+  residues = a .residues;
+}
 
 pub accepted-small : {least n k : ℕ} {buffer : List ℕ} → Accepted least n buffer k → n ≤ 1024
 accepted-small a = let most : 2 ^ a .exponent ≤ 1024 = pow-mono (a .small) in omega (arith, a .power)

@@ -1,6 +1,6 @@
 -- The sizes of document 01: `oneOf` holds of the entries of a list that is given by its rule (one-of-tab, tab-one-of), so that `allowedSize least`
 -- allows exactly the powers of two from `least` to 1024, and `exponentOf` is their exponent (exponent-of, allowed-power). From 2 on they are even
--- (allowed-even). Assumes nothing.
+-- (allowed-even). A later beginning allows no more (allowed-sooner). Assumes nothing.
 use mathlib.Core.Bool.{Bool, true, false, _||_}
 use mathlib.Core.Logic.{_⊎_, inl, inr, ⊎-elim}
 use mathlib.Core.Path.{_≡_, refl, sym, _∙_, ap, ap₂}
@@ -53,6 +53,13 @@ allowed-small least n t =
     let found = allowed-exponent least n t in
     let most : 2 ^ found .0 ≤ 1024 = pow-mono (found .1) in
     omega (arith, found .2)
+
+-- what is allowed where the sizes begin later is allowed where they begin sooner
+pub allowed-sooner : (least later n : ℕ) → least ≤ later → T (allowedSize later n) → T (allowedSize least n)
+unfolding allowedSize
+allowed-sooner least later n sooner t =
+    let enough : least ≤ n = omega (arith, leb→le later n (both-left (leb later n) (powerOfTwo n) t)) in
+    both-of (leb least n) (powerOfTwo n) (le→leb least n enough) (both-right (leb later n) (powerOfTwo n) t)
 
 pub exponent-allowed : (least m : ℕ) → m ≤ 10 → least ≤ 2 ^ m → T (allowedSize least (2 ^ m))
 unfolding allowedSize powerOfTwo powersOfTwo

@@ -1,5 +1,5 @@
 -- `lending::lengths_answer` meets its contract: each return rewrites the answer by the tests that led there. Assumes nothing.
-use Prim.Native.Nat.{_≤_}
+use Prim.Native.Nat.{_*_, _≤_}
 use native.Mathlib.Nat.{mul-le-mul}
 use native.Mathlib.Omega.{arith}
 use borrow.Author.Needs.{needs}
@@ -15,11 +15,15 @@ small c = allowed-small _ _ (passed (c .before .allowed-size .ensures) (c .if1 .
 returns : tie.Need-returns
 returns c = simp (← c .before .allowed-size .ensures, c .if1 .taken)
 
+-- whichever is multiplied
+fitting : (c : tie.Else1) → (c .before .before .args .times * c .before .before .args .n ≤ 2048) × (c .before .before .args .parts * c .before .before .args .n ≤ 2048)
+fitting c = (mul-le-mul (c .before .before .pre .0) (small c), mul-le-mul (c .before .before .pre .1) (small c))
+
 mul-lengths-fit : tie.Need-mul-lengths-fit
-mul-lengths-fit c = record { fits = omega (arith, mul-le-mul (c .before .before .pre .0) (small c)) }
+mul-lengths-fit c = record { fits = omega (arith, fitting c) }
 
 mul-lengths-fit-2 : tie.Need-mul-lengths-fit-2
-mul-lengths-fit-2 c = record { fits = omega (arith, mul-le-mul (c .before .before .pre .1) (small c)) }
+mul-lengths-fit-2 c = record { fits = omega (arith, fitting c) }
 
 returns-2 : tie.Need-returns-2
 returns-2 c =

@@ -4,21 +4,19 @@ use mathlib.Core.List.{List, [], _∷_}
 use mathlib.Core.Bool.{Bool, true, not}
 use mathlib.Core.Path.{_≡_, sym, _∙_, ap}
 use native.Mathlib.Nat.{zero-mul}
+use native.Mathlib.Omega.{arith}
 use borrow.Author.Needs.{needs}
 use denote.Ref.{now}
 use lib.ListN.{length}
 use Rattle.answers.specs.Refuse.{refuse}
 use Rattle.answers.specs.Said.{accepted, says}
-use Rattle.ring.proofs.Below.{both-left}
-use Rattle.lending.proofs.Accepted.{done-passed}
-use Rattle.lending.proofs.Bad.{sound-residues}
-use Rattle.lending.proofs.Lengths.{fit-lengths}
+use Rattle.lending.proofs.Accepted.{entries-passed}
 use Rattle.lending.proofs.Tests.{past-residues, residues-refused}
-use Rattle.sums.specs.Bad.{soundEntries}
 use Rattle.sums.specs.Call.{transformAnswer, windowAnswer}
 use Rattle.sums.specs.Lengths.{lengthsFit}
 use Rattle.sums.specs.Size.{allowedSize}
 use Rattle.sums.specs.Window.{acceptedWindow}
+use Rattle.sums.proofs.Sizes.{allowed-sooner}
 use Rattle.window_residue.proofs.test_window.Statement.{statement}
 use Rattle.window_residue.proofs.test_window.Tie as tie
 
@@ -44,8 +42,9 @@ accepted-requires : tie.Need-accepted-requires
 accepted-requires c κs =
     let asked = c .before .before in
     let start = asked .before .before in
-    let tests = done-passed (size start) (fit start) (entries start) true (first-three asked) (c .enum-told .given .1) in
-    (fit-lengths _ _ 0 0 (tests .1) .0, tests .0, sound-residues _ (both-left (soundEntries (now (start .args .window))) true (tests .2)))
+    let n = start .args .n in
+    let tests = entries-passed _ n _ 0 _ (now (start .args .window)) (asked .entries-answer .ensures) (c .enum-told .given .1) in
+    (tests .1, allowed-sooner 2 _ n (omega arith) (tests .0), tests .3)
 
 decided : (c : tie.After-accepted)
     → windowAnswer (c .before .before .before .before .before .args .n) (now (c .before .before .before .before .before .args .window))

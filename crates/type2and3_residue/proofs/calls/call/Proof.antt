@@ -2,7 +2,7 @@
 -- changed. Assumes nothing.
 use native.Mathlib.Omega.{arith}
 use denote.Ref.{now}
-use Rattle.lending.proofs.Accepted.{answered-accepted, outcome-done, outcome-refused}
+use Rattle.lending.proofs.Accepted.{answered-accepted, accepted-sooner, outcome-done, outcome-refused}
 use Rattle.type2and3_plans.specs.Sum.{sumBy}
 use Rattle.type2and3_residue.proofs.calls.call.Statement.{statement}
 use Rattle.type2and3_residue.proofs.calls.call.Tie as tie
@@ -10,12 +10,12 @@ use Rattle.type2and3_residue.proofs.calls.call.Tie as tie
 transform-requires : tie.Need-transform-requires
 transform-requires c κs =
     let told = c .before .before .before .before in
-    answered-accepted 1 _ _ _ (told .before .before .in-place-answer .ensures) (told .enum-told .given .1)
+    accepted-sooner (answered-accepted _ _ _ _ (told .before .before .in-place-answer .ensures) (told .enum-told .given .1)) (omega arith)
 
 transform-requires-2 : tie.Need-transform-requires-2
 transform-requires-2 c κs =
     let told = c .before .before .before .before in
-    answered-accepted 1 _ _ _ (told .before .before .in-place-answer .ensures) (told .enum-told .given .1)
+    accepted-sooner (answered-accepted _ _ _ _ (told .before .before .in-place-answer .ensures) (told .enum-told .given .1)) (omega arith)
 
 returns : tie.Need-returns
 returns c =

@@ -1,7 +1,7 @@
 -- `type4_residue::calls::call` meets its contract: where the answer is `Done` the tests were passed and the transform was made; else nothing was changed. Assumes nothing.
 use native.Mathlib.Omega.{arith}
 use denote.Ref.{now}
-use Rattle.lending.proofs.Accepted.{answered-accepted, outcome-done, outcome-refused}
+use Rattle.lending.proofs.Accepted.{answered-accepted, accepted-sooner, outcome-done, outcome-refused}
 use Rattle.type4_plans.specs.Sum.{sumBy}
 use Rattle.type4_residue.proofs.calls.call.Statement.{statement}
 use Rattle.type4_residue.proofs.calls.call.Tie as tie
@@ -9,7 +9,7 @@ use Rattle.type4_residue.proofs.calls.call.Tie as tie
 transform-requires : tie.Need-transform-requires
 transform-requires c κs =
     let told = c .before .before in
-    answered-accepted 2 _ _ _ (told .before .before .in-place-answer .ensures) (told .enum-told .given .1)
+    accepted-sooner (answered-accepted _ _ _ _ (told .before .before .in-place-answer .ensures) (told .enum-told .given .1)) (omega arith)
 
 returns : tie.Need-returns
 returns c =
