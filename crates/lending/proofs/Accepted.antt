@@ -111,15 +111,6 @@ module _ {A : Type 0} (nought : A) (firstAfter secondAfter : List A) (needed : �
       ap (λ (s : Said). spread s first second scratch) said
       ∙ ap (spreadOf nought firstAfter secondAfter needed first second scratch) (sym said ∙ asked)
 
--- the same of a transform in place
-module _ (least n : ℕ) (transform : List ℕ → List ℕ) (buffer scratch : List ℕ) {answer : Answer} (asked : says answer ≡ inPlaceAnswer least n buffer (length scratch)) where
-  pub outcome-done : answer ≡ Done → {buffer' scratch' : List ℕ} → buffer' ≡ transform buffer → scratch' ≡ cleared 0 n scratch
-      → outcome (says answer) buffer' scratch' ≡ inPlace least transform n buffer scratch
-  outcome-done = outcome-of-done 0 transform n buffer scratch asked
-
-  pub outcome-refused : (r : Refusal) → answer ≡ No r → outcome (says answer) buffer scratch ≡ inPlace least transform n buffer scratch
-  outcome-refused = outcome-of-refused 0 transform n buffer scratch asked
-
 -- a call whose tests are passed is answered `Done`
 pub accepted-answered : {least n : ℕ} {buffer : List ℕ} {scratchLength : ℕ} → Accepted least n buffer scratchLength
     → inPlaceAnswer least n buffer scratchLength ≡ accepted []
@@ -140,3 +131,13 @@ accepted-answered {least} {n} {buffer} {scratchLength} a =
 
     fit : T (lengthsFit (length buffer) n scratchLength n)
     fit = lengths-fit (length buffer) n scratchLength n (a .whole) (a .room)
+
+-- the outcome of a transform in place: where its tests are passed, and where it was refused
+module _ (least n : ℕ) (transform : List ℕ → List ℕ) (buffer scratch : List ℕ) {answer : Answer} where
+  pub outcome-done : Accepted least n buffer (length scratch) → answer ≡ Done → {buffer' scratch' : List ℕ} → buffer' ≡ transform buffer → scratch' ≡ cleared 0 n scratch
+      → outcome (says answer) buffer' scratch' ≡ inPlace least transform n buffer scratch
+  outcome-done passed done = outcome-of-done 0 transform n buffer scratch (ap says done ∙ sym (accepted-answered passed)) done
+
+  pub outcome-refused : says answer ≡ inPlaceAnswer least n buffer (length scratch) → (r : Refusal) → answer ≡ No r
+      → outcome (says answer) buffer scratch ≡ inPlace least transform n buffer scratch
+  outcome-refused asked = outcome-of-refused 0 transform n buffer scratch asked

@@ -35,12 +35,6 @@ module _ {A : Type 0} where
       let rest : tab n (λ k. f (suc k)) ≡ tab n (λ k. h (suc k)) = tab-ext n (λ k below. same (suc k) (omega arith)) in
       cc
 
-  -- one entry more, at the end
-  pub tab-more : (n : ℕ) (f : ℕ → A) → tab (suc n) f ≡ tab n f ++ (f n ∷ [])
-  unfolding tab
-  tab-more zero f = refl
-  tab-more (suc n) f = ap (λ (xs : List A). f zero ∷ xs) (tab-more n (λ k. f (suc k)))
-
   -- one table after another
   pub tab-append : (m n : ℕ) (f : ℕ → A) → tab (m + n) f ≡ tab m f ++ tab n (λ k. f (m + k))
   unfolding tab

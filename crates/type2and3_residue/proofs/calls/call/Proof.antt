@@ -2,29 +2,34 @@
 -- changed. Assumes nothing.
 use native.Mathlib.Omega.{arith}
 use denote.Ref.{now}
+use lib.ListN.{length}
+use Rattle.lending.specs.Accepted.{Accepted}
 use Rattle.lending.proofs.Accepted.{answered-accepted, accepted-sooner, outcome-done, outcome-refused}
 use Rattle.type2and3_plans.specs.Sum.{sumBy}
 use Rattle.type2and3_residue.proofs.calls.call.Statement.{statement}
 use Rattle.type2and3_residue.proofs.calls.call.Tie as tie
 
+-- the tests were passed where the answer is `Done`
+module _ (c : tie.After-enum-told) where
+  abbrev start : tie.Start
+  start = c .before .before .before .before .before .before
+
+  accepted : Accepted 1 (start .args .n) (now (start .args .buffer)) (length (now (start .args .scratch)))
+  accepted = accepted-sooner (answered-accepted _ _ _ _ (c .before .before .in-place-answer .ensures) (c .enum-told .given .1)) (omega arith)
+
 transform-requires : tie.Need-transform-requires
-transform-requires c κs =
-    let told = c .before .before .before .before in
-    accepted-sooner (answered-accepted _ _ _ _ (told .before .before .in-place-answer .ensures) (told .enum-told .given .1)) (omega arith)
+transform-requires c κs = accepted (c .before .before .before .before)
 
 transform-requires-2 : tie.Need-transform-requires-2
-transform-requires-2 c κs =
-    let told = c .before .before .before .before in
-    accepted-sooner (answered-accepted _ _ _ _ (told .before .before .in-place-answer .ensures) (told .enum-told .given .1)) (omega arith)
+transform-requires-2 c κs = accepted (c .before .before .before .before)
 
 returns : tie.Need-returns
 returns c =
     let done = c .before .before .before .before in
     let told = done .before .before .before .before .before in
-    let asked = told .before .before in
-    let start = asked .before .before .before .before in
-    outcome-done 1 (start .args .n) (sumBy (start .args .which)) (now (start .args .buffer)) (now (start .args .scratch))
-    (asked .in-place-answer .ensures)
+    let a = start told .args in
+    outcome-done 1 (a .n) (sumBy (a .which)) (now (a .buffer)) (now (a .scratch))
+    (accepted told)
     (told .enum-told .given .1)
     (done .transform .ensures .0)
     (done .transform .ensures .1)
@@ -33,10 +38,9 @@ returns-2 : tie.Need-returns-2
 returns-2 c =
     let done = c .before .before .before .before in
     let told = done .before .before .before .before .before in
-    let asked = told .before .before in
-    let start = asked .before .before .before .before in
-    outcome-done 1 (start .args .n) (sumBy (start .args .which)) (now (start .args .buffer)) (now (start .args .scratch))
-    (asked .in-place-answer .ensures)
+    let a = start told .args in
+    outcome-done 1 (a .n) (sumBy (a .which)) (now (a .buffer)) (now (a .scratch))
+    (accepted told)
     (told .enum-told .given .1)
     (done .transform2 .ensures .0)
     (done .transform2 .ensures .1)
@@ -44,8 +48,8 @@ returns-2 c =
 returns-3 : tie.Need-returns-3
 returns-3 c =
     let asked = c .before .before in
-    let start = asked .before .before .before .before in
-    outcome-refused 1 (start .args .n) (sumBy (start .args .which)) (now (start .args .buffer)) (now (start .args .scratch))
+    let a = asked .before .before .before .before .args in
+    outcome-refused 1 (a .n) (sumBy (a .which)) (now (a .buffer)) (now (a .scratch))
     (asked .in-place-answer .ensures)
     _
     (c .enum-told4 .given .1)
