@@ -1,5 +1,6 @@
--- A call that is answered `Done` has passed its tests (done-passed; of one slice entries-passed; in place answered-accepted, accepted-answered), also where the sizes begin sooner (accepted-sooner), and its length is at most 1024 (accepted-small). A call
--- that does its work exactly where it is answered so has the outcome that is promised (outcome-of-done, outcome-of-refused; spread-of-done, spread-of-refused; outcome-done, outcome-refused). Assumes nothing.
+-- A call that is answered `Done` has passed its tests (done-passed; of one slice entries-passed; in place answered-accepted and, back, accepted-answered). What is accepted
+-- where the sizes begin later is where they begin sooner (accepted-sooner), and its length is at most 1024 (accepted-small). A call that does its work exactly where it is
+-- answered so has the outcome that is promised (outcome-of-done, outcome-of-refused; spread-of-done, spread-of-refused; in place outcome-done, outcome-refused). Assumes nothing.
 use mathlib.Core.Bool.{Bool, true, false, not}
 use mathlib.Core.List.{List, [], _∷_}
 use mathlib.Core.Path.{_≡_, sym, _∙_, ap, subst}
