@@ -16,10 +16,10 @@ module _ {table s x : List ℕ} {a b : ℕ} (ready : PartInPlace table s a b x) 
   pub part-length : length (part a b s) ≡ b - a
   part-length = length-take-le (b - a) (drop a s) (rw length-drop (omega (arith, ready .within)))
 
-  -- the part from a up to b can be transformed in place, with as much of x as scratch
-  pub part-ready : InPlace table (part a b s) (take (b - a - 0) x)
-  part-ready =
-      let all : b - a - 0 ≡ b - a = omega arith in
+  -- the part from a up to b, of k entries, can be transformed in place, with as many of x as scratch
+  pub part-ready : (k : ℕ) → b - a ≡ k → InPlace table (part a b s) (take (k - 0) x)
+  part-ready k is =
+      let all : k - 0 ≡ b - a = omega arith in
       record {
         levels = rw part-length (ready .levels);
         residues = ready .residues;
@@ -27,10 +27,10 @@ module _ {table s x : List ℕ} {a b : ℕ} (ready : PartInPlace table s a b x) 
       }
 
   -- a leaf needs no scratch
-  pub leaf-ready : b - a ≤ 2 → InPlace table (part a b s) (part a b s) × (length (part a b s) ≤ 2)
-  leaf-ready short = (
-    record { levels = part-ready .levels; residues = part-ready .residues; same = refl },
-    omega (arith, part-length, short),
+  pub leaf-ready : (k : ℕ) → b - a ≡ k → k ≤ 2 → InPlace table (part a b s) (part a b s) × (length (part a b s) ≤ 2)
+  leaf-ready k is short = (
+    record { levels = rw part-length (ready .levels); residues = ready .residues; same = refl },
+    omega (arith, part-length, is, short),
   )
 
 module _ {q : ℕ} {h c s l : List ℕ} (parts : Parts q h c s l) where
@@ -54,5 +54,5 @@ module _ {q : ℕ} {h c s l : List ℕ} (parts : Parts q h c s l) where
     pub ready-second : Residues c → PartInPlace table l (2 * q) (3 * q) x
     ready-second = ready (part-second parts) (omega arith) (omega arith) (levels-quarter q some levels)
 
-    pub ready-third : Residues s → PartInPlace table l (3 * q) (4 * q) x
-    ready-third = ready (part-third parts) (omega arith) (omega arith) (levels-quarter q some levels)
+    pub ready-third : {n : ℕ} → n ≡ 4 * q → Residues s → PartInPlace table l (3 * q) n x
+    ready-third all = rw all (ready (part-third parts) (omega arith) (omega arith) (levels-quarter q some levels))

@@ -141,7 +141,7 @@ module _ (t : ℕ) where
       let taken = step else in (
         omega arith,
         ready-third (second-held second) (taken .some) (taken .levels)
-            (second .dct3-part2 .kept .1 .1 .1 .1 .0 ∙ first .dct3-part .kept .1 .1 .1 .1 .0 ∙ taken .from-length) (three-residues (q else) (x else)),
+            (second .dct3-part2 .kept .1 .1 .1 .1 .0 ∙ first .dct3-part .kept .1 .1 .1 .1 .0 ∙ taken .from-length) refl (three-residues (q else) (x else)),
       )
 
   dct3-merge-requires : dct3-lts.Need-merge-requires (calls t) (dct3-at t) dct3.Post
@@ -177,11 +177,11 @@ module _ (t : ℕ) where
   dct3-part-leaf-requires : dct3-part-lts.Need-leaf-requires (part-calls t) (dct3-part-at t) dct3-part.Post
   dct3-part-leaf-requires c κs =
       let taken = c .before in
-      leaf-ready (taken .before .before .before .before .pre .1) (taken .if1 .taken)
+      leaf-ready (taken .before .before .before .before .pre .1) _ refl (taken .if1 .taken)
 
   dct3-part-dct3-requires : dct3-part-lts.Need-dct3-requires (part-calls t) (dct3-part-at t) dct3-part.Post
   dct3-part-dct3-requires c κs =
-      let ready = part-ready (c .before .before .before .before .before .before .pre .1) in
+      let ready = part-ready (c .before .before .before .before .before .before .pre .1) _ refl in
       (omega arith, ready)
 
   dct3-part-returns : dct3-part-lts.Need-returns (part-calls t) (dct3-part-at t) dct3-part.Post

@@ -1,4 +1,5 @@
 -- `dct3_residue::type2and3_splitradix::dst3_part` meets its contract: the part that was lent stands in the whole again. Assumes nothing.
+use mathlib.Core.Path.{refl}
 use native.Mathlib.Omega.{arith}
 use Rattle.sums.specs.Transform.{dst3Sum}
 use Rattle.ring.proofs.Parts.{put-back}
@@ -7,7 +8,7 @@ use Rattle.dct3_residue.proofs.type2and3_splitradix.dst3_part.Statement
 use Rattle.dct3_residue.proofs.type2and3_splitradix.dst3_part.Tie as tie
 
 dst3-requires : tie.Need-dst3-requires
-dst3-requires c κs = part-ready (c .before .before .before .before .before .pre)
+dst3-requires c κs = part-ready (c .before .before .before .before .before .pre) _ refl
 
 returns : tie.Need-returns
 returns c =
