@@ -22,14 +22,15 @@ use Rattle.floats.proofs.Levels.{levels-some, quarter-power, quarter-small}
 abbrev pub transformed : List Float → List Float → List Float → List Float
 transformed cosines sines = dct2Fast floatOps (tableTwiddles cosines sines)
 
-module _ (x : List Float) {unit : ℕ} {cosines sines : List Float} (levels : Levels 4 unit (length x) cosines sines) (short : length x ≤ 2) where
-  pub leaf-fast : naiveDct2 floatOps (oneTable cosines) x ≡ transformed cosines sines x
+-- what a leaf requires of x and its one table
+module _ (x : List Float) {unit : ℕ} {table : List Float} (ready : Levels 4 unit (length x) table table × (length x ≤ 2)) where
+  pub leaf-fast : (sines : List Float) → naiveDct2 floatOps (oneTable table) x ≡ transformed table sines x
   unfolding naiveDct2
-  leaf-fast = sym (dct2-leaf floatOps (tableTwiddles cosines sines) x (levels-some levels) short)
+  leaf-fast sines = sym (dct2-leaf floatOps (tableTwiddles table sines) x (levels-some (ready .0)) (ready .1))
 
-  pub leaf-fast-sines : naiveDst2 floatOps (oneTable sines) x ≡ dst2Fast floatOps (tableTwiddles cosines sines) x
+  pub leaf-fast-sines : (cosines : List Float) → naiveDst2 floatOps (oneTable table) x ≡ dst2Fast floatOps (tableTwiddles cosines table) x
   unfolding naiveDst2
-  leaf-fast-sines = sym (dst2-leaf floatOps (tableTwiddles cosines sines) x (levels-some levels) short)
+  leaf-fast-sines cosines = sym (dst2-leaf floatOps (tableTwiddles cosines table) x (levels-some (ready .0)) (ready .1))
 
 pub inner-length : (x : List Float) {unit n : ℕ} {cosines sines : List Float} → Levels 4 unit n cosines sines → length x ≡ n
     → length (transformed cosines sines x) ≡ length x

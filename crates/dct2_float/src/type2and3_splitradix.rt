@@ -1,11 +1,10 @@
 // type2and3_splitradix.rs over f64: DCT-II and DST-II. A transform calls itself on half and quarter lengths, which fall until 2 or 1, over parts of scratch that are lent
-// on one after the other, with the buffer as the inner scratch. From four entries on the sine transform is the cosine transform with signs and order changed around it; at
-// one and two it is the naive sum, as in the Rust.
+// on one after the other, with the buffer as the inner scratch. A part that is a leaf is spared the call of a long function. From four entries on the sine transform is the
+// cosine transform with signs and order changed around it; at one and two it is the naive sum, as in the Rust.
 ghost use mathlib.Core.Path.{_≡_};
-ghost use Rattle.ring.specs.Part.{over};
 ghost use Rattle.algorithms.specs.Fast.{dct2Fast, dst2Fast};
 ghost use Rattle.floats.specs.Arithmetic.{floatOps, tableTwiddles};
-ghost use Rattle.floats.specs.Ready.{InPlace, PartInPlace};
+ghost use Rattle.floats.specs.Ready.{InPlace};
 use crate::steps;
 use split_float::order::alternate;
 use split_float::order::reverse;
@@ -19,31 +18,25 @@ pub fn dct2(cosines: &[f64], sines: &[f64], unit: usize, x: &mut [f64], s: &mut 
         steps::leaf_dct2(cosines, unit, x);
     } else {
         let q = n / 4;
+        let half = 2 * q;
+        let three = 3 * q;
         steps::split(cosines, sines, unit, q, x, s);
-        dct2_part(cosines, sines, 2 * unit, s, 0, 2 * q, x);
-        dct2_part(cosines, sines, 4 * unit, s, 2 * q, 3 * q, x);
-        dct2_part(cosines, sines, 4 * unit, s, 3 * q, 4 * q, x);
+        if half <= 2 {
+            steps::leaf_dct2(cosines, 2 * unit, &mut s[0..half]);
+        } else {
+            dct2(cosines, sines, 2 * unit, &mut s[0..half], &mut x[0..half]);
+        }
+        if q <= 2 {
+            steps::leaf_dct2(cosines, 4 * unit, &mut s[half..three]);
+        } else {
+            dct2(cosines, sines, 4 * unit, &mut s[half..three], &mut x[0..q]);
+        }
+        if q <= 2 {
+            steps::leaf_dct2(cosines, 4 * unit, &mut s[three..n]);
+        } else {
+            dct2(cosines, sines, 4 * unit, &mut s[three..n], &mut x[0..q]);
+        }
         steps::merge(q, s, x);
-    }
-}
-
-// The part of s from `from` up to `to`, transformed in place. A part that is a leaf is spared the call of a long function.
-pub fn dct2_part(
-    cosines: &[f64],
-    sines: &[f64],
-    unit: usize,
-    s: &mut [f64],
-    from: usize,
-    to: usize,
-    x: &mut [f64],
-)
-    requires { ⌜ PartInPlace unit (now cosines) (now sines) (now s) from to (now x) ⌝ }
-    ensures { λ r. ⌜ now (s .exit) ≡ over (dct2Fast floatOps (tableTwiddles (now (cosines .entry)) (now (sines .entry)))) from to (now (s .entry)) ⌝ }
-{
-    if to - from <= 2 {
-        steps::leaf_dct2(cosines, unit, &mut s[from..to]);
-    } else {
-        dct2(cosines, sines, unit, &mut s[from..to], &mut x[0..to - from]);
     }
 }
 

@@ -14,10 +14,15 @@ use Rattle.algorithms.proofs.Inputs.{length-evens, length-one, length-three}
 use Rattle.algorithms.proofs.Fast.{dct3-step, dct3-length, dst3-turned}
 use Rattle.floats.specs.Arithmetic.{floatOps, tableTwiddles}
 use Rattle.floats.specs.Ready.{Levels}
-use Rattle.floats.proofs.Levels.{levels-two, levels-quarter, quarter-power, quarter-small}
+use Rattle.floats.proofs.Levels.{quarter-power, quarter-small}
 
 abbrev pub transformed : List Float → List Float → List Float → List Float
 transformed cosines sines = dct3Fast floatOps (tableTwiddles cosines sines)
+
+pub inner-length : (x : List Float) {unit n : ℕ} {cosines sines : List Float} → Levels 4 unit n cosines sines → length x ≡ n
+    → length (transformed cosines sines x) ≡ length x
+inner-length x {unit} {n} {cosines} {sines} levels size =
+    dct3-length floatOps (tableTwiddles cosines sines) x (levels .exponent) (levels .small) (size ∙ levels .power)
 
 module _ (q : ℕ) (x : List Float) where
   abbrev pub evens : List Float
@@ -38,23 +43,6 @@ module _ {unit : ℕ} (q : ℕ) (x : List Float) {cosines sines : List Float} (s
     fourth-quarter = length-three floatOps (tableTwiddles cosines sines) q x;
     is = is;
   }
-
-  pub evens-length : length (transformed cosines sines (evens q x)) ≡ length (evens q x)
-  evens-length =
-      let two = levels-two q some levels in
-      dct3-length floatOps (tableTwiddles cosines sines) (evens q x) (two .exponent) (two .small)
-      (length-evens floatOps (tableTwiddles cosines sines) q x ∙ two .power)
-
-  quarter-length : (y : List Float) → length y ≡ q → length (transformed cosines sines y) ≡ length y
-  quarter-length y size =
-      let quarter = levels-quarter q some levels in
-      dct3-length floatOps (tableTwiddles cosines sines) y (quarter .exponent) (quarter .small) (size ∙ quarter .power)
-
-  pub one-length : length (transformed cosines sines (one q x)) ≡ length (one q x)
-  one-length = quarter-length (one q x) (length-one floatOps (tableTwiddles cosines sines) q x)
-
-  pub three-length : length (transformed cosines sines (three q x)) ≡ length (three q x)
-  three-length = quarter-length (three q x) (length-three floatOps (tableTwiddles cosines sines) q x)
 
   pub results-merged : {l out : List Float}
       → Parts q (transformed cosines sines (evens q x)) (transformed cosines sines (one q x)) (transformed cosines sines (three q x)) l → length x ≡ 4 * q

@@ -15,7 +15,7 @@ use Rattle.algorithms.proofs.Fast.{dct3-leaf, dst3-leaf}
 use Rattle.algorithms.proofs.ShortLists.{set-single, set-pair}
 use Rattle.floats.specs.Arithmetic.{floatZero, floatOps, turnEntry, tableTwiddles, oneTable}
 use Rattle.floats.specs.Ready.{Levels}
-use Rattle.floats.proofs.Levels.{turn-entry}
+use Rattle.floats.proofs.Levels.{turn-entry, levels-some}
 
 module _ {A : Type 0} (O : Ops A) (W : Twiddles A) where
   dct3-single : (x : List A) → length x ≡ 1 → naiveDct3 O W x ≡ O .halve (at O x 0) ∷ []
@@ -92,11 +92,11 @@ module _ {unit : ℕ} {table : List Float} (x : List Float) (levels : Levels 4 u
           )
 
 -- a leaf of the fast routines is the naive sum, which reads one table only
-module _ (cosines sines x : List Float) (some : 1 ≤ length x) (short : length x ≤ 2) where
-  pub dct3-leaf-is : naiveDct3 floatOps (oneTable cosines) x ≡ dct3Fast floatOps (tableTwiddles cosines sines) x
+module _ (x : List Float) {unit : ℕ} {table : List Float} (ready : Levels 4 unit (length x) table table × (length x ≤ 2)) where
+  pub dct3-leaf-is : (sines : List Float) → naiveDct3 floatOps (oneTable table) x ≡ dct3Fast floatOps (tableTwiddles table sines) x
   unfolding naiveDct3
-  dct3-leaf-is = sym (dct3-leaf floatOps (tableTwiddles cosines sines) x some short)
+  dct3-leaf-is sines = sym (dct3-leaf floatOps (tableTwiddles table sines) x (levels-some (ready .0)) (ready .1))
 
-  pub dst3-leaf-is : naiveDst3 floatOps (oneTable sines) x ≡ dst3Fast floatOps (tableTwiddles cosines sines) x
+  pub dst3-leaf-is : (cosines : List Float) → naiveDst3 floatOps (oneTable table) x ≡ dst3Fast floatOps (tableTwiddles cosines table) x
   unfolding naiveDst3
-  dst3-leaf-is = sym (dst3-leaf floatOps (tableTwiddles cosines sines) x some short)
+  dst3-leaf-is cosines = sym (dst3-leaf floatOps (tableTwiddles cosines table) x (levels-some (ready .0)) (ready .1))

@@ -21,7 +21,7 @@ returns c =
     let called = c .before .before in
     let then = called .before .before in
     let start = then .before .before .before .before .before in
-    called .leaf-dst2 .ensures ∙ leaf-fast-sines _ (start .pre .levels) (then .if1 .taken)
+    called .leaf-dst2 .ensures ∙ leaf-fast-sines _ (levels-sines (start .pre .levels), then .if1 .taken) (start .args .cosines .now)
 
 returns-2 : tie.Need-returns-2
 returns-2 c =

@@ -2,7 +2,7 @@
 -- order changed before and signs after. Assumes nothing.
 use mathlib.Core.Path.{sym, _∙_}
 use native.Mathlib.Omega.{arith}
-use Rattle.floats.proofs.Levels.{levels-some, levels-sines, step-ready}
+use Rattle.floats.proofs.Levels.{levels-sines, step-ready}
 use Rattle.dct3_float.proofs.Leaf.{dst3-leaf-is}
 use Rattle.dct3_float.proofs.Inner.{sines-turned}
 use Rattle.dct3_float.proofs.type2and3_splitradix.dst3.Statement.{statement}
@@ -23,8 +23,7 @@ returns c =
     let called = c .before .before in
     let then = called .before .before in
     let start = then .before .before .before .before .before in
-    called .leaf-dst3 .ensures
-    ∙ dst3-leaf-is (start .args .cosines .now) (start .args .sines .now) (start .args .x .now) (levels-some (start .pre .levels)) (then .if1 .taken)
+    called .leaf-dst3 .ensures ∙ dst3-leaf-is _ (levels-sines (start .pre .levels), then .if1 .taken) (start .args .cosines .now)
 
 returns-2 : tie.Need-returns-2
 returns-2 c =

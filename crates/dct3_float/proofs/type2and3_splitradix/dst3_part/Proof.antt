@@ -1,4 +1,5 @@
 -- `dct3_float::type2and3_splitradix::dst3_part` meets its contract: the part that was lent stands in the whole again. Assumes nothing.
+use mathlib.Core.Path.{refl}
 use native.Mathlib.Omega.{arith}
 use Rattle.ring.proofs.Parts.{put-back}
 use Rattle.algorithms.specs.Fast.{dst3Fast}
@@ -8,7 +9,7 @@ use Rattle.dct3_float.proofs.type2and3_splitradix.dst3_part.Statement.{
 use Rattle.dct3_float.proofs.type2and3_splitradix.dst3_part.Tie as tie
 
 dst3-requires : tie.Need-dst3-requires
-dst3-requires c κs = part-ready (c .before .before .before .before .before .before .pre)
+dst3-requires c κs = part-ready (c .before .before .before .before .before .before .pre) _ refl
 
 returns : tie.Need-returns
 returns c =

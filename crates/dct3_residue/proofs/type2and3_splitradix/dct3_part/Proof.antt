@@ -1,0 +1,34 @@
+-- `dct3_residue::type2and3_splitradix::dct3_part` meets its contract: the part that was lent stands in the whole again. Assumes nothing.
+use mathlib.Core.Path.{refl}
+use native.Mathlib.Omega.{arith}
+use Rattle.sums.specs.Transform.{dct3Sum}
+use Rattle.ring.proofs.Parts.{put-back}
+use Rattle.split_residue.proofs.Parts.{part-ready}
+use Rattle.dct3_residue.proofs.type2and3_splitradix.dct3_part.Statement.{statement}
+use Rattle.dct3_residue.proofs.type2and3_splitradix.dct3_part.Tie as tie
+
+dct3-requires : tie.Need-dct3-requires
+dct3-requires c κs = part-ready (c .before .before .before .before .before .pre) _ refl
+
+returns : tie.Need-returns
+returns c =
+    let called = c .before .before .before .before in
+    let start = called .before .before .before .before .before .before in
+    put-back dct3Sum (start .args .from) (start .args .to) (start .args .s .now) (called .dct3 .ensures)
+
+pub dct3-part-spec : {M : Type 1} → statement M
+dct3-part-spec =
+    tie.close
+    (tie.spec
+    (λ c. omega arith)
+    (λ c. omega arith)
+    (λ c. omega arith)
+    (λ c. omega arith)
+    (λ c. omega arith)
+    (λ c. omega arith)
+    (λ c. omega arith)
+    (λ c. omega arith)
+    dct3-requires
+    (λ c. omega arith)
+    (λ c. omega arith)
+    returns)
