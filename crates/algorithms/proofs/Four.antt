@@ -158,9 +158,9 @@ module _ (r : ℕ) (L : Length (4 * suc r)) (x : List ℕ) (N : length x ≡ 2 *
       record {
         u_first = backwards sin_left 0 r (omega (arith, length_left_dst4 residue_ops m x)) ∙ last_entry residue_ops.add ∙ ap twofold (sym (from_end 0 (2 * r + 1) (omega arith)));
         u_rest = λ i l. pair_backwards i (r - suc i) (omega arith);
-        v_first = first_entry _ ∙ ap twofold (sym (from_end (2 * r + 1) 0 (omega arith)));
+        v_first = first_entry (λ a b. residue_ops.sub b a) ∙ ap twofold (sym (from_end (2 * r + 1) 0 (omega arith)));
         v_rest = λ k i e.
-            ap (of p) (after_first _ k (omega arith))
+            ap (of p) (after_first (λ a b. residue_ops.sub b a) k (omega arith))
             ∙ of_difference (entry x (2 * k + 2)) (entry x (2 * k + 1)) (sym (from_end (2 * i + 1) (2 * k + 2) (omega arith))) (sym (from_end (2 * i + 2) (2 * k + 1) (omega arith)));
       }
     where

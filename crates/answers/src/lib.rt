@@ -1,11 +1,13 @@
 // What every call answers: done, or no with the reason. Document 01, "Numbers for no", gives each reason its number.
 // Nothing is refused here.
+#![tactic(auto)]
+
 ghost use Rattle.std.specs.Prelude.{◌≡◌};
 ghost use Rattle.answers.specs.Number.{number_of};
 ghost use Rattle.answers.specs.Said.{says, said_number};
 
 // The reasons, in the order of document 01's table.
-#[derive(Drop)]
+#[derive(Clone, Copy)]
 pub enum Refusal {
     // A size, a count of segments or a count of slots that is not allowed.
     Size,
@@ -34,7 +36,7 @@ pub enum Refusal {
 }
 
 // A call did what it promises, or it refused and changed nothing.
-#[derive(Drop)]
+#[derive(Clone, Copy)]
 pub enum Answer {
     Done,
     No(Refusal),

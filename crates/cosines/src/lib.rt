@@ -1,6 +1,8 @@
 // The cosines that split radix turns by, as constant tables: for each M = 1, 2, 4, .. the M cosines at odd multiples of 1/(8M) of a turn, up to a quarter of a turn,
 // one level after the other. A transform of N entries of type 2 or 3 needs the levels below N, N - 1 entries; one of type 4 needs level N as well, 2N - 1 entries. A table
 // that is handed out is copied, so short lengths have shorter ones.
+#![tactic(auto)]
+
 ghost use Rattle.std.specs.Prelude.{◌≡◌};
 ghost use Rattle.sums.specs.Cosines.{cosines_table};
 

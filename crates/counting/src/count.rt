@@ -3,14 +3,14 @@ ghost use Rattle.std.specs.Prelude.{◌≡◌, ◌+◌, min, eqb};
 ghost use Rattle.counting.specs.Added.{Empty, Added};
 ghost use Rattle.counting.specs.Counted.{one};
 
-#[derive(Drop)]
+#[derive(Clone, Copy)]
 pub struct Count {
     pub all: u64,
     pub good: u64,
 }
 
 // What a test counts: the answers of its calls, the outputs that it compared, and the lent entries that it looked at after a call.
-#[derive(Drop)]
+#[derive(Clone, Copy)]
 pub struct Tally {
     pub answers: Count,
     pub outputs: Count,

@@ -1,6 +1,7 @@
 -- The leaves: the naive sums of one and of two entries, term by term, are what the code stores. Over any arithmetic (dct2_one_stored, dct2_two_stored, dst2_one_stored,
--- dst2_two_stored); and where the terms' angles stand in a table of floats (single_unit, pair_unit, leaf_entry). Assumes nothing.
+-- dst2_two_stored); and where the terms' angles stand in a table of floats (single_unit, leaf_pair, leaf_entry). Assumes nothing.
 use mathlib.Core.Path.{◌≡◌, sym, ◌∙◌, ap}
+use Rattle.std.proofs.Common.{◌≢◌}
 use mathlib.Core.List.{List, [], ◌∷◌}
 use Prim.Native.Nat.{ℕ, ◌+◌, ◌*◌, ◌≤◌}
 use native.Mathlib.Omega.{arith}
@@ -12,7 +13,7 @@ use Rattle.algorithms.specs.Naive.{cos_of_units, sin_of_units, naive_dct2, naive
 use Rattle.algorithms.proofs.ShortLists.{set_single, set_pair}
 use Rattle.floats.specs.Arithmetic.{turn_entry}
 use Rattle.floats.specs.Ready.{Levels}
-use Rattle.floats.proofs.Levels.{turn_entry_is}
+use Rattle.floats.proofs.Levels.{turn_entry_is, levels_some}
 
 module _ {A : Type 0} (O : Ops A) (W : Twiddles A) (x : List A) where
   -- a sum of one term and of two, which begins with z
@@ -77,8 +78,12 @@ module _ {unit n : ℕ} {table : List Float} (levels : Levels 4 unit n table tab
   pub single_unit : n ≡ 1 → unit ≡ 2048
   single_unit size = omega (arith, leaf_whole 1 size, levels.turn)
 
-  pub pair_unit : n ≡ 2 → unit ≡ 1024
+  pair_unit : n ≡ 2 → unit ≡ 1024
   pair_unit size = omega (arith, leaf_whole 2 size, levels.turn)
+
+  -- a leaf that is not of one entry is of two
+  pub leaf_pair : n ≤ 2 → n ≢ 1 → (n ≡ 2) × (unit ≡ 1024)
+  leaf_pair short more = let two : n ≡ 2 = omega (arith, levels_some levels) in (two, pair_unit two)
 
   -- the entry at a units, of m entries
   pub leaf_entry : (m : ℕ) → n ≡ m → 1 ≤ m → (a place : ℕ) → place ≡ a * unit → get_or table place nan ≡ turn_entry table a (4 * m)

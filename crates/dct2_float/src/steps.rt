@@ -13,7 +13,7 @@ use split_float::order::turned;
 use split_float::rotation::{Twiddle, rotate, twiddle_at};
 
 // What one turn stores.
-#[derive(Drop)]
+#[derive(Clone, Copy)]
 pub struct Inputs {
     pub half_low: f64,
     pub half_high: f64,

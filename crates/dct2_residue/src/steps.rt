@@ -14,7 +14,7 @@ use split_residue::order::turned;
 use split_residue::rotation::{rotate, twiddle_at};
 
 // What one turn stores.
-#[derive(Drop)]
+#[derive(Clone, Copy)]
 pub struct Inputs {
     pub half_low: u32,
     pub half_high: u32,

@@ -1,6 +1,7 @@
 -- The naive DCT-III and DST-III of one and of two entries, over any arithmetic (dct3_single, dct3_pair, dst3_single, dst3_pair), and that the leaves over f64 store
--- them (dct3_single_stored and the others): at n entries a place of the table is a number of units, of which 4n make up the table (leaf_unit). Assumes nothing.
+-- them (dct3_single_stored and the others): at n entries a place of the table is a number of units, of which 4n make up the table (leaf_unit, leaf_pair). Assumes nothing.
 use mathlib.Core.Path.{◌≡◌, refl, sym, ◌∙◌, ap}
+use Rattle.std.proofs.Common.{◌≢◌}
 use mathlib.Core.List.{List, [], ◌∷◌}
 use Prim.Native.Nat.{ℕ, ◌*◌, ◌≤◌}
 use native.Mathlib.Nat as Nat
@@ -58,6 +59,13 @@ module _ {unit n : ℕ} {table : List Float} (levels : Levels 4 unit n table tab
 
   first_at : 1 ≤ m → get_or table unit nan ≡ turn_entry table 1 (4 * m)
   first_at some = ap (λ (k : ℕ). get_or table k nan) (sym (Nat.one-mul unit)) ∙ entry_at 1 some
+
+-- a leaf that is not of one entry is of two, and eight units make up its table
+pub leaf_pair : {unit n : ℕ} {table : List Float} → Levels 4 unit n table table × (n ≤ 2) → n ≢ 1
+    → (n ≡ 2) × (unit * (4 * 2) ≡ length table) × (length table ≡ 8192)
+leaf_pair {unit} {n} ready more =
+    let two : n ≡ 2 = omega (arith, levels_some ready.0) in
+    (two, leaf_unit ready.0 2 two, ready.0.turn)
 
 module _ {unit : ℕ} {table : List Float} (x : List Float) (levels : Levels 4 unit (length x) table table) where
   -- half is what the code has for half of the first entry, or of the last

@@ -13,7 +13,7 @@ use split_float::order::turned;
 use split_float::rotation::{Twiddle, reflect, twiddle_at};
 
 // What one turn stores.
-#[derive(Drop)]
+#[derive(Clone, Copy)]
 pub struct Outputs {
     pub lower_plus: f64,
     pub upper_plus: f64,

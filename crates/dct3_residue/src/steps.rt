@@ -14,7 +14,7 @@ use split_residue::order::turned;
 use split_residue::rotation::{rotate, twiddle_at};
 
 // What one turn stores.
-#[derive(Drop)]
+#[derive(Clone, Copy)]
 pub struct Outputs {
     pub lower_plus: u32,
     pub upper_plus: u32,

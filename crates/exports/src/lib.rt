@@ -1,5 +1,7 @@
 // The C interface (include/kultygash.h): each call with document 01's number for its answer, where 0 is done. A slice crosses as a pointer and a length.
 // Here are the transforms in place; the windows (`windows`) and the MDCT (`mdct`) are beside it.
+#![tactic(auto)]
+
 ghost use Rattle.sums.specs.Call.{in_place};
 ghost use Rattle.sums.specs.Transform.{dct2_sum, dst2_sum, dct3_sum, dst3_sum, dct4_sum, dst4_sum};
 ghost use Rattle.sums.specs.Returned.{Returned};

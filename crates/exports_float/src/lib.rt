@@ -1,5 +1,7 @@
 // The C interface of the floats (include/kultygash.h): each call with document 01's number for its answer, where 0 is done. A slice crosses as a pointer and a length.
 // Here are the transforms in place; the MDCT (`mdct`) is beside it.
+#![tactic(auto)]
+
 ghost use Rattle.sums.specs.Returned.{Returned};
 ghost use Rattle.algorithms.specs.Naive.{naive_dct2, naive_dst2, naive_dct3, naive_dst3};
 ghost use Rattle.algorithms.specs.Fast.{dct2_fast, dst2_fast, dct3_fast, dst3_fast, dct4_fast, dst4_fast};

@@ -1,4 +1,6 @@
 // Prints document 01's twelve figures, (a) to (l), one to a line.
+#![tactic(auto)]
+
 ghost use Rattle.std.specs.Prelude.{◌≡◌};
 ghost use Rattle.sums.specs.Residue.{powers_table};
 
@@ -6,37 +8,39 @@ mod figure;
 mod print;
 
 use print::line;
+use std::io;
+use std::io::Print;
 
-fn main() {
+fn main(rt: HostRuntime) -> io::Result<()> {
     let table = powers::powers();
-    cosine_figures(&table);
-    sine_figures(&table);
-    figures_twice(&table);
-    line(b'k', &[figure::k()]);
-    line(b'l', &[figure::l()]);
+    cosine_figures(&rt, &table)?;
+    sine_figures(&rt, &table)?;
+    figures_twice(&rt, &table)?;
+    line(&rt, b'k', &[figure::k()])?;
+    line(&rt, b'l', &[figure::l()])
 }
 
-fn cosine_figures(table: &[u32])
+fn cosine_figures(rt: &impl Print, table: &[u32]) -> io::Result<()>
     requires { table.now ≡ powers_table 8192 }
 {
-    line(b'a', &figure::a(table));
-    line(b'b', &figure::b(table));
-    line(b'c', &figure::c(table));
-    line(b'd', &figure::d(table));
-    line(b'e', &figure::e(table));
+    line(rt, b'a', &figure::a(table))?;
+    line(rt, b'b', &figure::b(table))?;
+    line(rt, b'c', &figure::c(table))?;
+    line(rt, b'd', &figure::d(table))?;
+    line(rt, b'e', &figure::e(table))
 }
 
-fn sine_figures(table: &[u32])
+fn sine_figures(rt: &impl Print, table: &[u32]) -> io::Result<()>
     requires { table.now ≡ powers_table 8192 }
 {
-    line(b'f', &figure::f(table));
-    line(b'g', &figure::g(table));
+    line(rt, b'f', &figure::f(table))?;
+    line(rt, b'g', &figure::g(table))
 }
 
-fn figures_twice(table: &[u32])
+fn figures_twice(rt: &impl Print, table: &[u32]) -> io::Result<()>
     requires { table.now ≡ powers_table 8192 }
 {
-    line(b'h', &figure::h(table));
-    line(b'i', &figure::i(table));
-    line(b'j', &figure::j(table));
+    line(rt, b'h', &figure::h(table))?;
+    line(rt, b'i', &figure::i(table))?;
+    line(rt, b'j', &figure::j(table))
 }

@@ -1,24 +1,25 @@
 // A figure as a line of text: its letter and its numbers.
-use libc::STDOUT_FILENO;
+use std::io;
+use std::io::Print;
 
-pub fn line(letter: u8, values: &[u32]) {
-    byte(b'(');
-    byte(letter);
-    byte(b')');
+pub fn line(rt: &impl Print, letter: u8, values: &[u32]) -> io::Result<()> {
+    byte(rt, b'(')?;
+    byte(rt, letter)?;
+    byte(rt, b')')?;
     let mut i = 0;
     while i < values.len() {
-        byte(b' ');
-        number(values[i]);
+        byte(rt, b' ')?;
+        number(rt, values[i])?;
         i += 1;
     }
-    byte(b'\n');
+    byte(rt, b'\n')
 }
 
-fn byte(b: u8) {
+fn byte(rt: &impl Print, b: u8) -> io::Result<()> {
     let text = [b];
-    io::write_all(STDOUT_FILENO, &text);
+    rt.write_all(&text)
 }
 
-fn number(n: u32) {
-    io::print_decimal(STDOUT_FILENO, n as u64);
+fn number(rt: &impl Print, n: u32) -> io::Result<()> {
+    rt.print(n)
 }

@@ -1,10 +1,15 @@
 // Replays recorded answers of the Rust's float routines, which are read from standard input, and prints how much of them came out the same. No Rust is at hand.
+#![tactic(auto)]
+
+mod input;
 mod lines;
 
-use libc::STDIN_FILENO;
+use std::io;
+use std::io::Input;
 
-fn main() {
+fn main(rt: HostRuntime) -> io::Result<()> {
     let mut bytes = [0u8; 131072];
-    let read = io::read_full(STDIN_FILENO, &mut bytes);
-    lines::replay(&bytes[..read]);
+    let mut reader = rt.reader();
+    let read = input::read_full(&mut reader, &mut bytes)?;
+    lines::replay(&rt, &bytes[..read])
 }

@@ -1,4 +1,6 @@
 // Floats as the Rust's generic number has them: its zero, its half and its two.
+#![tactic(auto)]
+
 ghost use Rattle.std.specs.Prelude.{◌≡◌};
 ghost use Rattle.floats.specs.Arithmetic.{float_zero, float_ops};
 

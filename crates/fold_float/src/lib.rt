@@ -1,5 +1,7 @@
 // mdct_via_dct4.rs over f64: the fold before the DCT-IV of 2g entries, and the spread after it. Half the length, g, is passed down, so that nothing divides.
 // The first segment is a, b, the second c, d, each of g entries, under a window of 4g. All are inner functions: what one requires, its caller shows.
+#![tactic(auto)]
+
 ghost use Rattle.std.specs.Prelude.{◌≡◌, ◌*◌, length};
 ghost use Rattle.ring.specs.Finite.{tab};
 ghost use Rattle.algorithms.specs.Fold.{low_fold, high_fold, folded, spread_first, spread_second};

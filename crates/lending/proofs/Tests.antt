@@ -9,7 +9,6 @@ use mathlib.Core.Logic.{inl, inr, ⊎_elim}
 use mathlib.Core.Path.{◌≡◌, refl, sym, ◌∙◌, ap, subst, subst⁻¹}
 use Prim.Native.Nat.{ℕ}
 use lib.Dec.{T, eqb, eqb→eq}
-use borrow.Author.Tests.{not-false}
 use types.Run.{OneOf}
 use Rattle.answers.specs.Refuse.{refuse}
 use Rattle.answers.specs.Said.{Said, accepted, refused, says}
@@ -23,8 +22,8 @@ use Rattle.sums.specs.Size.{one_of}
 use Rattle.sums.proofs.Sizes.{or_cases, or_first, or_second}
 
 -- a call answered r, which by its contract is the test's value, and the caller went on past its `if !r`
-pub passed : {r test : Bool} → r ≡ test → not r ≡ false → T test
-passed {r} is left = subst T is (subst⁻¹ T (not-false r left) tt)
+pub passed : {r test : Bool} → r ≡ test → r ≡ true → T test
+passed is held = subst T is (subst⁻¹ T held tt)
 
 pub all_four : (w x y z : Bool) → T (w && (x && (y && z))) → T w × T x × T y × T z
 all_four w x y z t =

@@ -1,5 +1,7 @@
 // What a call asks of its size and of the slices that it is lent, before it changes any entry: document 01, "Sizes" and "Numbers
 // for no", 1 to 3. And the two stores that calls share: zeroing and copying. A test here answers and changes nothing.
+#![tactic(auto)]
+
 ghost use Rattle.std.specs.Prelude.{◌≡◌, true, [], ◌∷◌, ◌*◌, ◌≤◌, length};
 ghost use Rattle.answers.specs.Said.{says};
 ghost use Rattle.sums.specs.Size.{allowed_size};
@@ -70,6 +72,7 @@ pub fn first_bad(entries: &[u32]) -> usize
 }
 
 // Whether every entry is a residue. Every call asks it of all that it reads, so the loop goes on past a bad entry: it has no exit in its midst, and takes several entries at a time.
+#[tactic(auto, using(crate::proofs::Bad::seen_more))]
 pub fn sound(entries: &[u32]) -> bool
     ensures { result ≡ sound_entries entries.now }
 {

@@ -1,5 +1,7 @@
 // What a call over f64 asks of its size and of the lengths of what it is lent, before it changes any entry: document 01, "Sizes" and "Numbers for no", 1 and 2. And
 // the two stores that calls share: zeroing and copying. A test here answers and changes nothing, and looks at no entry.
+#![tactic(auto)]
+
 ghost use Rattle.std.specs.Prelude.{◌≡◌, ◌≤◌, length};
 ghost use Rattle.answers.specs.Said.{says};
 ghost use Rattle.ring.specs.Part.{cleared, copied};
@@ -17,6 +19,7 @@ fn naive_size(n: usize) -> bool
 }
 
 // Even, from 2 to 1024.
+#[tactic(auto, unfolding(floats::specs::Call::even_size))]
 fn even_size(n: usize) -> bool
     ensures { result ≡ even_size n }
 {
@@ -27,6 +30,7 @@ fn even_size(n: usize) -> bool
 }
 
 // Both tables are as long as is wanted, the buffer has n entries and scratch no fewer.
+#[tactic(auto, unfolding(floats::specs::Call::tabled_fits))]
 fn tabled_fits(
     wanted: usize,
     n: usize,

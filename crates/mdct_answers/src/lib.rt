@@ -1,5 +1,7 @@
 // What an MDCT and an IMDCT answer before they store anything: document 01, "Numbers for no", 1 to 4, in that order. Nothing is changed here.
 // Both are lent three slices of n entries, a window of 2n, and scratch of `parts` times n: no part for the naive sums, two for the fast way.
+#![tactic(auto)]
+
 ghost use Rattle.std.specs.Prelude.{◌≡◌, [], ◌≤◌};
 ghost use Rattle.answers.specs.Said.{says};
 ghost use Rattle.sums.specs.Call.{mdct_answer, imdct_answer};

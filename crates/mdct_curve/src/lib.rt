@@ -1,5 +1,7 @@
 // Overlapped blocks, there and back: the MDCTs of neighbouring segments of a curve, with a segment of zeros before the first and after the
 // last, and the IMDCTs of all of these added up, which should be the curve. What is done with one block is in `block`.
+#![tactic(auto)]
+
 ghost use Rattle.std.specs.Prelude.{◌≡◌, ◌*◌, ◌≤◌, length};
 
 use crate::block::advance;

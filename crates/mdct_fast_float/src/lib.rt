@@ -1,5 +1,7 @@
 // mdct_via_dct4.rs over f64: fold, DCT-IV, and back DCT-IV, spread. Both are inner: what they require, the tests of a call have shown.
 // The Rust splits its scratch in two; here parts of scratch are lent on, one after the other.
+#![tactic(auto)]
+
 ghost use Rattle.std.specs.Prelude.{◌≡◌, ◌++◌, ◌*◌, ◌≤◌, length, drop};
 ghost use Rattle.ring.specs.Part.{cleared};
 ghost use Rattle.algorithms.specs.Fast.{dct4_fast, mdct_fast, imdct_fast_first, imdct_fast_second};

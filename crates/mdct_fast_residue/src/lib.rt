@@ -1,5 +1,7 @@
 // mdct_via_dct4.rs over residues: fold, DCT-IV, and back DCT-IV, spread. Both are inner: what they require, the tests of a call have shown.
 // The Rust splits its scratch in two; here parts of scratch are lent on, one after the other.
+#![tactic(auto)]
+
 ghost use Rattle.std.specs.Prelude.{◌≡◌, ◌++◌, ◌*◌, ◌≤◌, length, take, drop};
 ghost use Rattle.ring.specs.Part.{cleared};
 ghost use Rattle.sums.specs.Transform.{dct4_sum, mdct_sum, imdct_sum};

@@ -1,7 +1,7 @@
 // What a call is told and lent, and what it should answer.
 ghost use Rattle.std.specs.Prelude.{◌≡◌, ◌*◌, ◌≤◌};
 
-#[derive(Drop)]
+#[derive(Clone, Copy)]
 pub struct Case {
     // The size that is named.
     pub n: usize,

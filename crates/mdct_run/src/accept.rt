@@ -7,6 +7,8 @@ use counting::count;
 use counting::count::Tally;
 use mdct_curve::there_and_back;
 use mdct_lent::case;
+use std::io;
+use std::io::Print;
 
 // MDCT and IMDCT under both windows, with p - 1 and 0 among the entries.
 fn agree(n: usize) -> Tally
@@ -20,19 +22,22 @@ fn agree(n: usize) -> Tally
     count::together(test::agree_by(0, 5, case), sine)
 }
 
-pub fn agreement() {
+pub fn agreement(rt: &impl Print) -> io::Result<()> {
     print::text(
+        rt,
         b"Naive and fast on the same entries, under both windows, p - 1 and 0 among them. Naive has 5 entries of scratch, fast 2N + 5.\n",
-    );
+    )?;
     let mut n = 2;
     while n <= 1024 {
-        print::size(n);
+        print::size(rt, n)?;
         accepted(
+            rt,
             agree(n),
             b" entries of the last two slices are the same by both; ",
-        );
+        )?;
         n = 2 * n;
     }
+    Ok(())
 }
 
 // Both ways under both windows.
@@ -44,14 +49,16 @@ fn back(n: usize) -> Tally
     count::together(flat, sine)
 }
 
-pub fn curves() {
+pub fn curves(rt: &impl Print) -> io::Result<()> {
     print::text(
+        rt,
         b"Curves of four segments, naive and fast, under both windows: the overlapped IMDCTs of the MDCTs of neighbouring segments.\n",
-    );
+    )?;
     let mut n = 2;
     while n <= 1024 {
-        print::size(n);
-        accepted(back(n), b" samples come back; ");
+        print::size(rt, n)?;
+        accepted(rt, back(n), b" samples come back; ")?;
         n = 2 * n;
     }
+    Ok(())
 }

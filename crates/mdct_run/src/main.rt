@@ -1,5 +1,9 @@
 // Runs the public calls of windows, MDCT and IMDCT over residues as document 01 asks ("All else is run by a program") and prints what was
 // counted. No count is known beforehand: each comes from a call's answer or from a comparison of entries.
+#![tactic(auto)]
+
+use std::io;
+
 mod accept;
 mod entries;
 mod lengths;
@@ -8,16 +12,17 @@ mod order;
 mod test;
 mod windows;
 
-fn main() {
+fn main(rt: HostRuntime) -> io::Result<()> {
     print::text(
+        &rt,
         b"MDCT and IMDCT over residues, each naive and fast: four calls. N = 2, 4, 8, .., 1024.\n",
-    );
-    accept::agreement();
-    accept::curves();
-    lengths::sizes();
-    lengths::lengths();
-    entries::all();
-    windows::all();
-    windows::eight_ones();
-    order::all();
+    )?;
+    accept::agreement(&rt)?;
+    accept::curves(&rt)?;
+    lengths::sizes(&rt)?;
+    lengths::lengths(&rt)?;
+    entries::all(&rt)?;
+    windows::all(&rt)?;
+    windows::eight_ones(&rt)?;
+    order::all(&rt)
 }

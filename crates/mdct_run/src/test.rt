@@ -10,7 +10,7 @@ use mdct_tests::refuse::refuse;
 use mdct_tests::windows;
 
 // What is run at every N: the calls of a case that is in order but for these.
-#[derive(Drop)]
+#[derive(Clone, Copy)]
 pub struct Test {
     // A wrong length, 1 to 12, or none at 0.
     pub length: usize,

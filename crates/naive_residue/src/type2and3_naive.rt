@@ -50,6 +50,7 @@ pub fn dct3(table: &[u32], unit: usize, x: &[u32], out: &mut [u32])
 }
 
 // The sine at (2k + 1)/4 of a turn is 1 at even k and −1 at odd k.
+#[tactic(auto, using(sums::proofs::Turns::sin_even_quarter, sums::proofs::Turns::sin_odd_quarter))]
 pub fn add_quarter(k: usize, held: u32, v: u32) -> u32
     requires { (held < p) × (v < p) }
     ensures { result ≡ (held + v * sin_turn (2 * k + 1) 4) % p }

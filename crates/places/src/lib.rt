@@ -1,4 +1,6 @@
 // Angles as places in a table that holds a whole turn, for residues and for floats.
+#![tactic(auto)]
+
 ghost use Rattle.std.specs.Prelude.{◌≡◌, ◌+◌, ◌*◌, ◌%◌, ◌<◌, ◌≤◌};
 ghost use Rattle.places.specs.Doubled.{Doubled};
 

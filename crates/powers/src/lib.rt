@@ -1,5 +1,7 @@
 // The constant table of the powers of g, the root of order 8192 (document 01, "Two arithmetics"): entry k is g^k mod p.
 // One function hands it out. A caller takes it once and lends it down, since each call copies all of it.
+#![tactic(auto)]
+
 ghost use Rattle.std.specs.Prelude.{◌≡◌};
 ghost use Rattle.sums.specs.Residue.{powers_table};
 

@@ -1,7 +1,7 @@
 -- Lists as tables of a function of the index: the length, the entries, when a list is a table, and tables put together.
 -- Over any type of entries. Assumes nothing.
 use mathlib.Core.Path.{◌≡◌, refl, ap, sym, ◌∙◌}
-use mathlib.Core.List.{List, [], ◌∷◌, ◌++◌, map}
+use mathlib.Core.List.{List, ◌∷◌, ◌++◌, map}
 use Prim.Native.Nat.{ℕ, zero, suc, ◌+◌, ◌<◌}
 use native.Mathlib.Nat.{le_of_suc-le-suc, not-suc-le-zero, zero-add, suc-add}
 use native.Mathlib.Omega.{arith}
@@ -32,7 +32,7 @@ module _ {A : Type 0} where
   tab_ext zero same = refl
   tab_ext {f} {h} (suc n) same =
       let first : f zero ≡ h zero = same zero (omega arith) in
-      let rest : tab n (λ k. f (suc k)) ≡ tab n (λ k. h (suc k)) = tab_ext n (λ k below. same (suc k) (omega arith)) in
+      let rest : tab n (λ k. f (suc k)) ≡ tab n (λ k. h (suc k)) = tab_ext {f = λ k. f (suc k)} {h = λ k. h (suc k)} n (λ k below. same (suc k) (omega arith)) in
       cc
 
   -- one table after another

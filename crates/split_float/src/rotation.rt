@@ -5,14 +5,14 @@ ghost use Rattle.algorithms.specs.Split.{along, across};
 ghost use Rattle.floats.specs.Arithmetic.{float_ops};
 
 // A twiddle travels as one pair of floats, cosine and sine.
-#[derive(Drop)]
+#[derive(Clone, Copy)]
 pub struct Twiddle {
     pub cos: f64,
     pub sin: f64,
 }
 
 // What a rotation makes of a pair: the part along the twiddle and the part across it.
-#[derive(Drop)]
+#[derive(Clone, Copy)]
 pub struct Rotated {
     pub along: f64,
     pub across: f64,

@@ -8,14 +8,14 @@ ghost use Rattle.split_residue.specs.Ready.{Levels};
 use residue::arithmetic::reduce;
 
 // A cosine and a sine travel together.
-#[derive(Drop)]
+#[derive(Clone, Copy)]
 pub struct Twiddle {
     pub cos: u32,
     pub sin: u32,
 }
 
 // What a rotation makes of a pair: the part along the twiddle and the part across it.
-#[derive(Drop)]
+#[derive(Clone, Copy)]
 pub struct Rotated {
     pub along: u32,
     pub across: u32,

@@ -1,1 +1,3 @@
+#![tactic(auto)]
+
 // Document 01 over residues: the constants, the angles, the sums, the windows. It holds no code.

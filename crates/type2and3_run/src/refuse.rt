@@ -7,7 +7,7 @@ use counting::{count, entries};
 
 // What a call is told and lent, and what it should answer: its size, the lengths of buffer and scratch, one entry of the buffer, whose
 // others are residues, and the number of the refusal.
-#[derive(Drop)]
+#[derive(Clone, Copy)]
 pub struct Case {
     pub n: usize,
     pub buffer: usize,

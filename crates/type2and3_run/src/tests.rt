@@ -5,58 +5,70 @@ use crate::accept::{agree, back};
 use crate::refuse::{Case, refuse};
 use counting::count;
 use counting::count::Tally;
+use std::io;
+use std::io::Print;
 
 const P: u32 = 998244353;
 
-fn accepted(tally: Tally, outputs: &[u8]) {
+fn accepted(rt: &impl Print, tally: Tally, outputs: &[u8]) -> io::Result<()> {
     print::accepted(
+        rt,
         tally,
         outputs,
         b" entries of scratch are as they should be\n",
-    );
+    )
 }
 
 // The naive and the fast calls at every N, after the text that says on what. Where `place` is one of the buffer's, p - 1 stands there.
-fn agreement_of(what: &[u8], place: usize) {
-    print::text(what);
+fn agreement_of(rt: &impl Print, what: &[u8], place: usize) -> io::Result<()> {
+    print::text(rt, what)?;
     let mut n = 1;
     while n <= 1024 {
-        print::size(n);
+        print::size(rt, n)?;
         accepted(
+            rt,
             agree(n, 5, place, P - 1),
             b" outputs are the same by both; ",
-        );
+        )?;
         n = 2 * n;
     }
+    Ok(())
 }
 
-pub fn agreement() {
+pub fn agreement(rt: &impl Print) -> io::Result<()> {
     agreement_of(
+        rt,
         b"Naive and fast on the same residues, as if by chance. Scratch has N + 5 entries.\n",
         usize::MAX,
-    );
+    )?;
     agreement_of(
+        rt,
         b"The same, the first of them p - 1 and from N = 2 on a middle one 0.\n",
         0,
-    );
+    )
 }
 
-pub fn round_trip() {
-    print::text(b"Type 3 of type 2, cosine and sine, naive and fast. Scratch has N entries.\n");
+pub fn round_trip(rt: &impl Print) -> io::Result<()> {
+    print::text(
+        rt,
+        b"Type 3 of type 2, cosine and sine, naive and fast. Scratch has N entries.\n",
+    )?;
     let mut n = 1;
     while n <= 1024 {
-        print::size(n);
-        accepted(back(n), b" outputs are N/2 times the input; ");
+        print::size(rt, n)?;
+        accepted(rt, back(n), b" outputs are N/2 times the input; ")?;
         n = 2 * n;
     }
+    Ok(())
 }
 
 // A size that is not allowed. All else is in order where slices can be so long.
-fn size(n: usize, buffer: usize, scratch: usize)
+fn size(rt: &impl Print, n: usize, buffer: usize, scratch: usize) -> io::Result<()>
     requires { (buffer ≤ 2048) × (scratch ≤ 2048) }
 {
-    print::size(n);
+    print::size(rt, n)?;
     print::refused(
+        rt,
         refuse(Case {
             n: n,
             buffer: buffer,
@@ -66,19 +78,23 @@ fn size(n: usize, buffer: usize, scratch: usize)
             number: 1,
         }),
         1,
-    );
+    )
 }
 
-pub fn sizes() {
-    print::text(b"Sizes.\n");
-    print::size(1024);
-    accepted(agree(1024, 0, 0, P - 1), b" outputs are the same by both; ");
-    size(2048, 2048, 2048);
-    size(0, 0, 5);
-    size(3, 3, 3);
-    size(1023, 1023, 1023);
-    size(1025, 1025, 1025);
-    size(usize::MAX, 2048, 2048);
+pub fn sizes(rt: &impl Print) -> io::Result<()> {
+    print::text(rt, b"Sizes.\n")?;
+    print::size(rt, 1024)?;
+    accepted(
+        rt,
+        agree(1024, 0, 0, P - 1),
+        b" outputs are the same by both; ",
+    )?;
+    size(rt, 2048, 2048, 2048)?;
+    size(rt, 0, 0, 5)?;
+    size(rt, 3, 3, 3)?;
+    size(rt, 1023, 1023, 1023)?;
+    size(rt, 1025, 1025, 1025)?;
+    size(rt, usize::MAX, 2048, 2048)
 }
 
 // The five kinds of wrong length.
@@ -151,39 +167,43 @@ fn every(number: u32, kind: usize, value: u32) -> Tally {
     sum
 }
 
-fn length(what: &[u8], kind: usize) {
-    print::text(what);
-    print::refused(every(2, kind, 0), 2);
+fn length(rt: &impl Print, what: &[u8], kind: usize) -> io::Result<()> {
+    print::text(rt, what)?;
+    print::refused(rt, every(2, kind, 0), 2)
 }
 
-pub fn lengths() {
-    print::text(b"Lengths, at every N.\n");
-    length(b"Buffer one short: ", 0);
-    length(b"Buffer one long: ", 1);
-    length(b"Buffer empty: ", 2);
-    length(b"Scratch one short: ", 3);
-    length(b"Scratch empty: ", 4);
+pub fn lengths(rt: &impl Print) -> io::Result<()> {
+    print::text(rt, b"Lengths, at every N.\n")?;
+    length(rt, b"Buffer one short: ", 0)?;
+    length(rt, b"Buffer one long: ", 1)?;
+    length(rt, b"Buffer empty: ", 2)?;
+    length(rt, b"Scratch one short: ", 3)?;
+    length(rt, b"Scratch empty: ", 4)
 }
 
-fn entry(what: &[u8], kind: usize, value: u32) {
-    print::text(what);
-    print::refused(every(3, kind, value), 3);
+fn entry(rt: &impl Print, what: &[u8], kind: usize, value: u32) -> io::Result<()> {
+    print::text(rt, what)?;
+    print::refused(rt, every(3, kind, value), 3)
 }
 
-fn largest_residue(what: &[u8], kind: usize) {
-    print::text(what);
-    accepted(every(0, kind, P - 1), b" outputs are the same by both; ");
+fn largest_residue(rt: &impl Print, what: &[u8], kind: usize) -> io::Result<()> {
+    print::text(rt, what)?;
+    accepted(
+        rt,
+        every(0, kind, P - 1),
+        b" outputs are the same by both; ",
+    )
 }
 
-pub fn residues() {
-    print::text(b"One entry of the buffer, at every N.\n");
-    entry(b"The first is p: ", 0, P);
-    entry(b"A middle one is p: ", 1, P);
-    entry(b"The last is p: ", 2, P);
-    entry(b"The first is 4294967295: ", 0, u32::MAX);
-    entry(b"A middle one is 4294967295: ", 1, u32::MAX);
-    entry(b"The last is 4294967295: ", 2, u32::MAX);
-    largest_residue(b"The first is p - 1: ", 0);
-    largest_residue(b"A middle one is p - 1: ", 1);
-    largest_residue(b"The last is p - 1: ", 2);
+pub fn residues(rt: &impl Print) -> io::Result<()> {
+    print::text(rt, b"One entry of the buffer, at every N.\n")?;
+    entry(rt, b"The first is p: ", 0, P)?;
+    entry(rt, b"A middle one is p: ", 1, P)?;
+    entry(rt, b"The last is p: ", 2, P)?;
+    entry(rt, b"The first is 4294967295: ", 0, u32::MAX)?;
+    entry(rt, b"A middle one is 4294967295: ", 1, u32::MAX)?;
+    entry(rt, b"The last is 4294967295: ", 2, u32::MAX)?;
+    largest_residue(rt, b"The first is p - 1: ", 0)?;
+    largest_residue(rt, b"A middle one is p - 1: ", 1)?;
+    largest_residue(rt, b"The last is p - 1: ", 2)
 }

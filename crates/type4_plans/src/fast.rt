@@ -31,6 +31,7 @@ fn with_table(which: Transform, table: &[u32], n: usize, buffer: &mut [u32], scr
 }
 
 // By the shortest table that will do.
+#[tactic(auto, using(sums::proofs::Cosines::table_cosines, crate::proofs::Accepted::power_small))]
 fn by_length(which: Transform, n: usize, buffer: &mut [u32], scratch: &mut [u32])
     requires { Accepted 2 n buffer.old (length scratch.old) }
     ensures { (buffer.new ≡ sum_by which buffer.old) × (cleared 0 n scratch.new ≡ cleared 0 n scratch.old) }

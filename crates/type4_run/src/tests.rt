@@ -5,35 +5,41 @@ use crate::refuse::{Case, refuse};
 use crate::twice::back;
 use counting::count;
 use counting::count::Tally;
+use std::io;
+use std::io::Print;
 
 const P: u32 = 998244353;
 
-fn accepted(tally: Tally) {
+fn accepted(rt: &impl Print, tally: Tally) -> io::Result<()> {
     print::accepted(
+        rt,
         tally,
         b" outputs are N/2 times the input; ",
         b" entries of scratch are as they should be\n",
-    );
+    )
 }
 
-pub fn round_trip() {
+pub fn round_trip(rt: &impl Print) -> io::Result<()> {
     print::text(
+        rt,
         b"Each call twice, on residues, the first of them p - 1 and a middle one 0. Scratch has N + 5 entries.\n",
-    );
+    )?;
     let mut n = 2;
     while n <= 1024 {
-        print::size(n);
-        accepted(back(n, 5, 0, P - 1));
+        print::size(rt, n)?;
+        accepted(rt, back(n, 5, 0, P - 1))?;
         n = 2 * n;
     }
+    Ok(())
 }
 
 // A size that is not allowed. All else is in order where slices can be so long.
-fn size(n: usize, buffer: usize, scratch: usize)
+fn size(rt: &impl Print, n: usize, buffer: usize, scratch: usize) -> io::Result<()>
     requires { (buffer ≤ 2048) × (scratch ≤ 2048) }
 {
-    print::size(n);
+    print::size(rt, n)?;
     print::refused(
+        rt,
         refuse(Case {
             n: n,
             buffer: buffer,
@@ -43,18 +49,18 @@ fn size(n: usize, buffer: usize, scratch: usize)
             number: 1,
         }),
         1,
-    );
+    )
 }
 
-pub fn sizes() {
-    print::text(b"Sizes.\n");
-    size(0, 0, 5);
-    size(1, 1, 1);
-    size(3, 3, 3);
-    size(1023, 1023, 1023);
-    size(1025, 1025, 1025);
-    size(2048, 2048, 2048);
-    size(usize::MAX, 2048, 2048);
+pub fn sizes(rt: &impl Print) -> io::Result<()> {
+    print::text(rt, b"Sizes.\n")?;
+    size(rt, 0, 0, 5)?;
+    size(rt, 1, 1, 1)?;
+    size(rt, 3, 3, 3)?;
+    size(rt, 1023, 1023, 1023)?;
+    size(rt, 1025, 1025, 1025)?;
+    size(rt, 2048, 2048, 2048)?;
+    size(rt, usize::MAX, 2048, 2048)
 }
 
 // The first, a middle and the last place.
@@ -127,49 +133,58 @@ fn every(number: u32, kind: usize, value: u32) -> Tally {
     sum
 }
 
-fn length(what: &[u8], kind: usize) {
-    print::text(what);
-    print::refused(every(2, kind, 0), 2);
+fn length(rt: &impl Print, what: &[u8], kind: usize) -> io::Result<()> {
+    print::text(rt, what)?;
+    print::refused(rt, every(2, kind, 0), 2)
 }
 
-pub fn lengths() {
-    print::text(b"Lengths, at every N.\n");
-    length(b"Buffer one short: ", 0);
-    length(b"Buffer one long: ", 1);
-    length(b"Buffer empty: ", 2);
-    length(b"Scratch one short: ", 3);
-    length(b"Scratch empty: ", 4);
+pub fn lengths(rt: &impl Print) -> io::Result<()> {
+    print::text(rt, b"Lengths, at every N.\n")?;
+    length(rt, b"Buffer one short: ", 0)?;
+    length(rt, b"Buffer one long: ", 1)?;
+    length(rt, b"Buffer empty: ", 2)?;
+    length(rt, b"Scratch one short: ", 3)?;
+    length(rt, b"Scratch empty: ", 4)
 }
 
-fn entry(what: &[u8], at: usize, value: u32) {
-    print::text(what);
-    print::refused(every(3, at, value), 3);
+fn entry(rt: &impl Print, what: &[u8], at: usize, value: u32) -> io::Result<()> {
+    print::text(rt, what)?;
+    print::refused(rt, every(3, at, value), 3)
 }
 
-fn largest_residue(what: &[u8], at: usize) {
-    print::text(what);
-    accepted(every(1, at, P - 1));
+fn largest_residue(rt: &impl Print, what: &[u8], at: usize) -> io::Result<()> {
+    print::text(rt, what)?;
+    accepted(rt, every(1, at, P - 1))
 }
 
-pub fn residues() {
-    print::text(b"One entry of the buffer, at every N.\n");
-    entry(b"The first is p: ", 0, P);
-    entry(b"A middle one is p: ", 1, P);
-    entry(b"The last is p: ", 2, P);
-    entry(b"The first is 4294967295: ", 0, u32::MAX);
-    entry(b"A middle one is 4294967295: ", 1, u32::MAX);
-    entry(b"The last is 4294967295: ", 2, u32::MAX);
-    largest_residue(b"The first is p - 1: ", 0);
-    largest_residue(b"A middle one is p - 1: ", 1);
-    largest_residue(b"The last is p - 1: ", 2);
+pub fn residues(rt: &impl Print) -> io::Result<()> {
+    print::text(rt, b"One entry of the buffer, at every N.\n")?;
+    entry(rt, b"The first is p: ", 0, P)?;
+    entry(rt, b"A middle one is p: ", 1, P)?;
+    entry(rt, b"The last is p: ", 2, P)?;
+    entry(rt, b"The first is 4294967295: ", 0, u32::MAX)?;
+    entry(rt, b"A middle one is 4294967295: ", 1, u32::MAX)?;
+    entry(rt, b"The last is 4294967295: ", 2, u32::MAX)?;
+    largest_residue(rt, b"The first is p - 1: ", 0)?;
+    largest_residue(rt, b"A middle one is p - 1: ", 1)?;
+    largest_residue(rt, b"The last is p - 1: ", 2)
 }
 
 // Several reasons at once. The entry at place 3 is `value`.
-fn several(n: usize, buffer: usize, scratch: usize, value: u32, number: u32, what: &[u8])
+fn several(
+    rt: &impl Print,
+    n: usize,
+    buffer: usize,
+    scratch: usize,
+    value: u32,
+    number: u32,
+    what: &[u8],
+) -> io::Result<()>
     requires { (buffer ≤ 2048) × (scratch ≤ 2048) }
 {
-    print::text(what);
+    print::text(rt, what)?;
     print::refused(
+        rt,
         refuse(Case {
             n: n,
             buffer: buffer,
@@ -179,21 +194,38 @@ fn several(n: usize, buffer: usize, scratch: usize, value: u32, number: u32, wha
             number: number,
         }),
         number,
-    );
+    )
 }
 
-pub fn order() {
-    print::text(b"Several reasons at once.\n");
-    several(12, 11, 12, P, 1, b"N = 12, a buffer of 11 with p in it: ");
-    several(12, 12, 11, 0, 1, b"N = 12, scratch of 11: ");
-    several(12, 12, 12, P, 1, b"N = 12, p in the buffer: ");
-    several(16, 17, 16, P, 2, b"N = 16, a buffer of 17 with p in it: ");
+pub fn order(rt: &impl Print) -> io::Result<()> {
+    print::text(rt, b"Several reasons at once.\n")?;
     several(
+        rt,
+        12,
+        11,
+        12,
+        P,
+        1,
+        b"N = 12, a buffer of 11 with p in it: ",
+    )?;
+    several(rt, 12, 12, 11, 0, 1, b"N = 12, scratch of 11: ")?;
+    several(rt, 12, 12, 12, P, 1, b"N = 12, p in the buffer: ")?;
+    several(
+        rt,
+        16,
+        17,
+        16,
+        P,
+        2,
+        b"N = 16, a buffer of 17 with p in it: ",
+    )?;
+    several(
+        rt,
         16,
         16,
         15,
         P,
         2,
         b"N = 16, scratch of 15, p in the buffer: ",
-    );
+    )
 }

@@ -1,6 +1,8 @@
 // Residue windows (document 01, "The sums"; window_fn.rs): whether one is accepted, whoever made it, and the two that the paper names.
 // The public calls: `test_window` refuses by 1, 2, 3 and 4, in that order, and changes nothing. `flat_window` and `sine_window` fill a lent slice,
 // or refuse by 1 and 2, in that order, and then change nothing.
+#![tactic(auto)]
+
 ghost use Rattle.std.specs.Prelude.{◌≡◌, [], ◌+◌, ◌*◌, ◌-◌, ◌^◌, ◌%◌, ◌<◌, T, length};
 ghost use Rattle.answers.specs.Said.{says};
 ghost use Rattle.ring.specs.Finite.{tab};

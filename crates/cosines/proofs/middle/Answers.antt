@@ -1,0 +1,7 @@
+-- `cosines::middle` meets its contract: the table passes the rule's test, which is computed at each of its 127 entries.
+-- Assumes nothing.
+use Rattle.cosines.proofs.Rule.{is_cosines}
+use Rattle.cosines.proofs.middle.Goals as goal
+
+pub returns : goal.returns
+returns c = is_cosines 7 _ tt

@@ -1,0 +1,15 @@
+-- `dct3_float::type2and3_splitradix::dst3_part` meets its contract: the part that was lent stands in the whole again. Assumes nothing.
+use mathlib.Core.Path.{refl}
+use Rattle.ring.proofs.Parts.{put_back}
+use Rattle.algorithms.specs.Fast.{dst3_fast}
+use Rattle.floats.specs.Arithmetic.{float_ops, table_twiddles}
+use Rattle.floats.proofs.Parts.{part_ready}
+use Rattle.dct3_float.proofs.type2and3_splitradix.dst3_part.Goals as goal
+
+pub dst3-requires : goal.dst3-requires
+dst3-requires c = part_ready c.requires _ refl
+
+pub returns : goal.returns
+returns c =
+    put_back (dst3_fast float_ops (table_twiddles c.args.cosines.now c.args.sines.now)) c.args.from c.args.to
+    c.args.s.now c.dst3.ensures

@@ -1,0 +1,11 @@
+-- `mdct_run::accept::curves` is safe and ends. The loop's invariant: N is at least 1, and at most twice the largest. It doubles.
+-- Assumes nothing.
+use Prim.Native.Nat.{◌-◌, ◌≤◌}
+use Rattle.mdct_run.proofs.accept.curves.Given as goal
+
+abbrev pub invariant-loop-n : goal.invariant-loop-n
+invariant-loop-n g l =
+    (1 ≤ l.n) × (l.n ≤ 2048)
+
+abbrev pub decreases-loop-n : goal.decreases-loop-n
+decreases-loop-n g l = 2048 - l.n

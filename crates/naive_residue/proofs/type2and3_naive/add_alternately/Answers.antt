@@ -1,0 +1,20 @@
+use mathlib.Core.Path.{◌∙◌}
+use native.Mathlib.Omega.{arith}
+use Rattle.naive_residue.specs.Added.{added_alternately}
+use Rattle.ring.proofs.Filled.{filled_none, filled_more, filled_next, filled_all}
+use Rattle.naive_residue.proofs.type2and3_naive.add_alternately.Goals as goal
+
+pub loop-k-init : goal.loop-k-init
+loop-k-init c = filled_none 0 _ _
+
+pub add_quarter-requires : goal.add_quarter-requires
+add_quarter-requires c =
+    (rw (filled_next c.loop-k.invariant) (c.requires.0.below c.loop-k.k (omega arith)), c.requires.1)
+
+pub loop-k-preserved : goal.loop-k-preserved
+loop-k-preserved c =
+    filled_more c.loop-k.invariant (omega arith) (c.add_quarter.ensures ∙ rw (filled_next c.loop-k.invariant))
+
+pub returns : goal.returns
+unfolding added_alternately
+returns c = filled_all c.loop-k.invariant c.loop-k-test.false

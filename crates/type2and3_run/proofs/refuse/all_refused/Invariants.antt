@@ -1,0 +1,13 @@
+-- `type2and3_run::refuse::all_refused` is safe and ends. The loop's invariant: the slices are as long as they were. The measure is the number of calls left.
+-- Assumes nothing.
+use mathlib.Core.Path.{◌≡◌}
+use Prim.Native.Nat.{◌-◌, ◌≤◌}
+use lib.ListN.{length}
+use Rattle.type2and3_run.proofs.refuse.all_refused.Given as goal
+
+abbrev pub invariant-loop-which : goal.invariant-loop-which
+invariant-loop-which l =
+    (length l.buffer ≡ length l.initial.buffer) × (length l.scratch ≡ length l.initial.scratch) × (l.which ≤ 8)
+
+abbrev pub decreases-loop-which : goal.decreases-loop-which
+decreases-loop-which l = 8 - l.which

@@ -1,0 +1,10 @@
+-- `type2and3_run::tests::every` is safe and ends. The loop's invariant: N is at least 1, and at most twice the largest. It doubles.
+-- Assumes nothing.
+use Prim.Native.Nat.{◌-◌, ◌≤◌}
+use Rattle.type2and3_run.proofs.tests.every.Given as goal
+
+abbrev pub invariant-loop-n : goal.invariant-loop-n
+invariant-loop-n l = (1 ≤ l.n) × (l.n ≤ 2048)
+
+abbrev pub decreases-loop-n : goal.decreases-loop-n
+decreases-loop-n l = 2048 - l.n

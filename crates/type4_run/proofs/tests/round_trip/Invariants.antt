@@ -1,0 +1,10 @@
+-- `type4_run::tests::round_trip` is safe and ends. The loop's invariant: N is at least 1, and at most twice the largest. It doubles.
+-- Assumes nothing.
+use Prim.Native.Nat.{◌-◌, ◌≤◌}
+use Rattle.type4_run.proofs.tests.round_trip.Given as goal
+
+abbrev pub invariant-loop-n : goal.invariant-loop-n
+invariant-loop-n g l = (1 ≤ l.n) × (l.n ≤ 2048)
+
+abbrev pub decreases-loop-n : goal.decreases-loop-n
+decreases-loop-n g l = 2048 - l.n
