@@ -1,4 +1,4 @@
-//! Links the static libraries: those in the folder that KULTYGASH_LIBRARIES names, or else those that `rt staticlib` makes. And FFTW.
+//! Links the static libraries: those in the folder that KULTYGASH_LIBRARIES names, or else those that `harness/make_libraries` makes. And FFTW.
 use std::env;
 
 fn main() {
