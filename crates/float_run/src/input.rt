@@ -1,18 +1,21 @@
 // Standard input as one piece.
-ghost use Rattle.std.specs.Prelude.{◌≤◌, length, IfOk};
+ghost use Rattle.std.specs.Prelude.{◌<◌, ◌≤◌, length, take, IfOk};
+ghost use Rattle.std.specs.Io.KnownBytes.{Consumes, IsAtEnd};
 
 use std::io;
 use std::io::Read;
 
-// Reads until the slice is full or the input ends, and says how many bytes came.
+// Reads until the slice is full or the input ends, and says how many bytes came: they stand at the front of the slice, in the input's order.
 pub fn read_full<R: Read>(reader: &mut R, bytes: &mut [u8]) -> io::Result<usize>
-    ensures { IfOk result (λ n. n ≤ length bytes.new) }
+    ensures within { IfOk result (λ n. n ≤ length bytes.new) }
+    ensures front { IfOk result (λ n. Consumes (R.remaining reader.old) (R.remaining reader.new) (take n bytes.new)) }
+    ensures end { IfOk result (λ n. n < length bytes.new → IsAtEnd (R.remaining reader.new)) }
 {
     let mut read = 0;
     while read < bytes.len() {
         let more = reader.read(&mut bytes[read..])?;
         if more == 0 {
-            break;
+            return Ok(read);
         }
         read += more;
     }
