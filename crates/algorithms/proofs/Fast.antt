@@ -9,7 +9,7 @@ use native.Mathlib.Omega.{arith}
 use lib.ListN.{length}
 use Rattle.ring.proofs.Table.{length_tab}
 use Rattle.sums.specs.Size.{exponent_of}
-use Rattle.sums.proofs.Sizes.{exponent_of_is}
+use Rattle.sums.proofs.Sizes.{exponent_of_is, exponent_of_power}
 use Rattle.algorithms.specs.Ops.{Ops, Twiddles}
 use Rattle.algorithms.specs.Lists.{alternated, reversed}
 use Rattle.algorithms.specs.Naive.{naive_dct2, naive_dst2, naive_dct3, naive_dst3}
@@ -44,8 +44,8 @@ module _ {A : Type 0} (by : ℕ → List A → List A) (leaf : List A → List A
       ap (λ (e : ℕ). by e x) (exponent_of_is (length x) 1 (omega arith) (first_power (length x) size)) ∙ one
   by_leaf none one (suc (suc (suc n))) size some short = absurd (let no : ⊥ = omega arith in no)
 
-  by_exponent : (e : ℕ) → e ≤ 10 → length x ≡ 2 ^ e → by (exponent_of (length x)) x ≡ by e x
-  by_exponent e small power = ap (λ (e : ℕ). by e x) (exponent_of_is (length x) e small power)
+  by_exponent : (e : ℕ) → e ≤ 11 → length x ≡ 2 ^ e → by (exponent_of (length x)) x ≡ by e x
+  by_exponent e small power = ap (λ (e : ℕ). by e x) (exponent_of_power (length x) e small power)
 
 -- by the exponent, every routine leaves as many entries
 module _ {A : Type 0} (O : Ops A) (W : Twiddles A) where
@@ -86,7 +86,7 @@ module _ {A : Type 0} (O : Ops A) (W : Twiddles A) (x : List A) where
     unfolding dst3_fast split_dst3
     dst3_leaf = by_leaf (split_dst3 O W) (naive_dst3 O W) x refl refl (length x) refl some short
 
-  module _ (k q : ℕ) (power : q ≡ 2 ^ k) (small : k ≤ 8) (size : length x ≡ 4 * q) where
+  module _ (k q : ℕ) (power : q ≡ 2 ^ k) (small : k ≤ 9) (size : length x ≡ 4 * q) where
     whole : length x ≡ 2 ^ suc (suc k)
     whole = four_power k q (length x) power size
 
@@ -130,7 +130,7 @@ module _ {A : Type 0} (O : Ops A) (W : Twiddles A) (x : List A) where
         ∙ ap (alternated O)
         (sym (by_exponent (split_dct3 O W) (naive_dct3 O W) (reversed O x) (suc (suc k)) (omega arith) (length_reversed O x ∙ whole)))
 
-  module _ (e : ℕ) (small : e ≤ 10) (power : length x ≡ 2 ^ e) where
+  module _ (e : ℕ) (small : e ≤ 11) (power : length x ≡ 2 ^ e) where
     pub dct2_length : length (dct2_fast O W x) ≡ length x
     unfolding dct2_fast
     dct2_length = ap length (by_exponent (split_dct2 O W) (naive_dct2 O W) x e small power) ∙ length_dct2 O W e x power ∙ sym power

@@ -1,5 +1,6 @@
 -- The fast routines by length, over residues, are the defining sums at every size that document 01 allows: of types 2 and 3 (dct2_fast_is, dst2_fast_is, dct3_fast_is,
--- dst3_fast_is), type 4 (dct4_fast_is, dst4_fast_is), MDCT (mdct_fast_is) and both outputs of IMDCT (imdct_fast_first_is, imdct_fast_second_is). Assumes nothing.
+-- dst3_fast_is), type 4 (dct4_fast_is, dst4_fast_is), MDCT (mdct_fast_is) and both outputs of IMDCT (imdct_fast_first_is, imdct_fast_second_is). Those of types 2 and 3 are it
+-- at 2048 as well (dct2_power_is, dst2_power_is, dct3_power_is, dst3_power_is). Assumes nothing.
 use mathlib.Core.Path.{◌≡◌, sym, ◌∙◌, ap, subst}
 use mathlib.Core.List.{List, ◌++◌}
 use Prim.Native.Nat.{ℕ, ◌*◌, ◌-◌, ◌^◌, ◌/◌, ◌≤◌}
@@ -10,13 +11,35 @@ use Rattle.ring.proofs.Powers.{half_power}
 use Rattle.sums.specs.Size.{allowed_size, exponent_of}
 use Rattle.sums.specs.Transform.{dct2_sum, dst2_sum, dct3_sum, dst3_sum, dct4_sum, dst4_sum, mdct_sum, imdct_sum}
 use Rattle.sums.proofs.Lengths.{Length, type4_length}
-use Rattle.sums.proofs.Sizes.{allowed_exponent, allowed_power, allowed_even}
+use Rattle.sums.proofs.Sizes.{allowed_exponent, allowed_power, allowed_even, exponent_of_power}
 use Rattle.algorithms.specs.Fold.{folded, spread_first, spread_second}
+use Rattle.algorithms.specs.Split.{split_dct2, split_dst2, split_dct3, split_dst3}
 use Rattle.algorithms.specs.Fast.{dct2_fast, dst2_fast, dct3_fast, dst3_fast, dct4_fast, dst4_fast, mdct_fast, imdct_fast_first, imdct_fast_second}
 use Rattle.algorithms.specs.Residues.{residue_ops, residue_twiddles}
 use Rattle.algorithms.proofs.Split.{split_dct2_is, split_dst2_is, split_dct3_is, split_dst3_is}
 use Rattle.algorithms.proofs.Four.{fast_dct4_is, fast_dst4_is}
 use Rattle.algorithms.proofs.Fold.{length_folded, mdct_folded, imdct_spread_first, imdct_spread_second}
+
+-- a length that is a power of two up to 2048
+module _ (e : ℕ) (small : e ≤ 11) (x : List ℕ) (power : length x ≡ 2 ^ e) where
+  exponent : exponent_of (length x) ≡ e
+  exponent = exponent_of_power (length x) e small power
+
+  pub dct2_power_is : dct2_fast residue_ops residue_twiddles x ≡ dct2_sum x
+  unfolding dct2_fast
+  dct2_power_is = ap (λ (k : ℕ). split_dct2 residue_ops residue_twiddles k x) exponent ∙ split_dct2_is e small x power
+
+  pub dst2_power_is : dst2_fast residue_ops residue_twiddles x ≡ dst2_sum x
+  unfolding dst2_fast
+  dst2_power_is = ap (λ (k : ℕ). split_dst2 residue_ops residue_twiddles k x) exponent ∙ split_dst2_is e small x power
+
+  pub dct3_power_is : dct3_fast residue_ops residue_twiddles x ≡ dct3_sum x
+  unfolding dct3_fast
+  dct3_power_is = ap (λ (k : ℕ). split_dct3 residue_ops residue_twiddles k x) exponent ∙ split_dct3_is e small x power
+
+  pub dst3_power_is : dst3_fast residue_ops residue_twiddles x ≡ dst3_sum x
+  unfolding dst3_fast
+  dst3_power_is = ap (λ (k : ℕ). split_dst3 residue_ops residue_twiddles k x) exponent ∙ split_dst3_is e small x power
 
 module _ (x : List ℕ) (allowed : T (allowed_size 1 (length x))) where
   abbrev e : ℕ
@@ -29,20 +52,16 @@ module _ (x : List ℕ) (allowed : T (allowed_size 1 (length x))) where
   power = (allowed_power 1 (length x) allowed).1
 
   pub dct2_fast_is : dct2_fast residue_ops residue_twiddles x ≡ dct2_sum x
-  unfolding dct2_fast
-  dct2_fast_is = split_dct2_is e small x power
+  dct2_fast_is = dct2_power_is e small x power
 
   pub dst2_fast_is : dst2_fast residue_ops residue_twiddles x ≡ dst2_sum x
-  unfolding dst2_fast
-  dst2_fast_is = split_dst2_is e small x power
+  dst2_fast_is = dst2_power_is e small x power
 
   pub dct3_fast_is : dct3_fast residue_ops residue_twiddles x ≡ dct3_sum x
-  unfolding dct3_fast
-  dct3_fast_is = split_dct3_is e small x power
+  dct3_fast_is = dct3_power_is e small x power
 
   pub dst3_fast_is : dst3_fast residue_ops residue_twiddles x ≡ dst3_sum x
-  unfolding dst3_fast
-  dst3_fast_is = split_dst3_is e small x power
+  dst3_fast_is = dst3_power_is e small x power
 
 -- half of a size from 2 on
 module _ (n : ℕ) (allowed : T (allowed_size 2 n)) where

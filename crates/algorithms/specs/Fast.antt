@@ -1,4 +1,4 @@
--- The fast routines by the length of what they are given, a power of two up to 1024: split radix, type 4 over it, and mdct_via_dct4.rs over that. Assumes nothing.
+-- The fast routines by the length of what they are given, a power of two up to 2048: split radix, type 4 over it, and mdct_via_dct4.rs over that. Assumes nothing.
 use Rattle.std.specs.Prelude.{List, ℕ, ◌-◌, ◌/◌, length}
 use Rattle.sums.specs.Size.{exponent_of}
 use Rattle.algorithms.specs.Ops.{Ops, Twiddles}

@@ -5,8 +5,7 @@ use Prim.Native.Nat.{ℕ, ◌-◌}
 use lib.ListN.{get_or}
 use Rattle.answers.specs.declared.Refusal.{Refusal}
 use Rattle.answers.specs.declared.Refusal.TheVariants.{Size, Length, Residue, Window, BrokenTray, OtherUnit, NumberZero, NotHeld, AlreadyHeld, Full, NothingHeld, BeyondCurve}
-use Rattle.answers.specs.declared.Answer.{Answer}
-use Rattle.answers.specs.declared.Answer.TheVariants.{Done, No}
+use Rattle.std.specs.Prelude.{Result, Ok, Err}
 use Rattle.answers.specs.Number.{number_of}
 use Rattle.answers.specs.Said.{Said, accepted, refused, says}
 
@@ -34,14 +33,14 @@ refusal_back NothingHeld = refl
 refusal_back BeyondCurve = refl
 
 -- the answer that says it
-answer_of : Said → Answer
-answer_of (accepted values) = Done
-answer_of (refused number values) = No (refusal_of number)
+answer_of : Said → Result (Unit {0}) Refusal
+answer_of (accepted values) = Ok tt
+answer_of (refused number values) = Err (refusal_of number)
 
-answer_back : (a : Answer) → answer_of (says a) ≡ a
+answer_back : (a : Result (Unit {0}) Refusal) → answer_of (says a) ≡ a
 unfolding answer_of
-answer_back Done = refl
-answer_back (No r) = ap No (refusal_back r)
+answer_back (Ok done) = refl
+answer_back (Err r) = ap Err (refusal_back r)
 
-pub says_apart : (a b : Answer) → says a ≡ says b → a ≡ b
+pub says_apart : (a b : Result (Unit {0}) Refusal) → says a ≡ says b → a ≡ b
 says_apart a b same = sym (answer_back a) ∙ ap answer_of same ∙ answer_back b

@@ -1,5 +1,4 @@
-// What every call answers: done, or no with the reason. Document 01, "Numbers for no", gives each reason its number.
-// Nothing is refused here.
+// Why a call refuses. Document 01, "Numbers for no", gives each reason its number. A call answers `Ok` and did what it promises, or `Err` with the reason and changed nothing.
 #![tactic(auto)]
 
 ghost use Rattle.std.specs.Prelude.{◌≡◌};
@@ -7,7 +6,7 @@ ghost use Rattle.answers.specs.Number.{number_of};
 ghost use Rattle.answers.specs.Said.{says, said_number};
 
 // The reasons, in the order of document 01's table.
-#[derive(Clone, Copy)]
+#[derive(Clone, Copy, Debug, PartialEq, Eq)]
 pub enum Refusal {
     // A size, a count of segments or a count of slots that is not allowed.
     Size,
@@ -35,39 +34,34 @@ pub enum Refusal {
     BeyondCurve,
 }
 
-// A call did what it promises, or it refused and changed nothing.
-#[derive(Clone, Copy)]
-pub enum Answer {
-    Done,
-    No(Refusal),
-}
-
 // The number that document 01 gives a refusal.
-pub fn number(r: Refusal) -> u32
-    ensures { result ≡ number_of r }
-{
-    match r {
-        Refusal::Size => 1,
-        Refusal::Length => 2,
-        Refusal::Residue => 3,
-        Refusal::Window => 4,
-        Refusal::BrokenTray => 5,
-        Refusal::OtherUnit => 6,
-        Refusal::NumberZero => 7,
-        Refusal::NotHeld => 8,
-        Refusal::AlreadyHeld => 9,
-        Refusal::Full => 10,
-        Refusal::NothingHeld => 11,
-        Refusal::BeyondCurve => 12,
+impl From<Refusal> for u32 {
+    ghost from_gives = { λ r n. n ≡ number_of r };
+
+    fn from(r: Refusal) -> u32 {
+        match r {
+            Refusal::Size => 1,
+            Refusal::Length => 2,
+            Refusal::Residue => 3,
+            Refusal::Window => 4,
+            Refusal::BrokenTray => 5,
+            Refusal::OtherUnit => 6,
+            Refusal::NumberZero => 7,
+            Refusal::NotHeld => 8,
+            Refusal::AlreadyHeld => 9,
+            Refusal::Full => 10,
+            Refusal::NothingHeld => 11,
+            Refusal::BeyondCurve => 12,
+        }
     }
 }
 
-// The number that a whole answer says, where 0 is no refusal.
-pub fn answer_number(a: Answer) -> u32
-    ensures { result ≡ said_number (says a) }
+// The number that a whole answer says, where 0 is no refusal. No `From`: neither the answer's type nor u32 is of this crate.
+pub fn answer_number(answer: Result<(), Refusal>) -> u32
+    ensures { result ≡ said_number (says answer) }
 {
-    match a {
-        Answer::Done => 0,
-        Answer::No(r) => number(r),
+    match answer {
+        Ok(()) => 0,
+        Err(reason) => u32::from(reason),
     }
 }

@@ -1,17 +1,17 @@
 // The cosines that split radix turns by, as constant tables: for each M = 1, 2, 4, .. the M cosines at odd multiples of 1/(8M) of a turn, up to a quarter of a turn,
-// one level after the other. A transform of N entries of type 2 or 3 needs the levels below N, N - 1 entries; one of type 4 needs level N as well, 2N - 1 entries. A table
-// that is handed out is copied, so short lengths have shorter ones.
+// one level after the other. A transform of N entries of type 2 or 3 needs the levels below N, N - 1 entries; one of type 4 needs level N as well, 2N - 1 entries. They are
+// lent (`levels`), or copied for a caller who wants one of his own, for whom short lengths have shorter ones.
 #![tactic(auto)]
 
-ghost use Rattle.std.specs.Prelude.{◌≡◌};
-ghost use Rattle.sums.specs.Cosines.{cosines_table};
+ghost use Rattle.std.specs.Prelude.{◌≡◌, ◌+◌, ◌≤◌, length};
+ghost use Rattle.sums.specs.Cosines.{Cosines, cosines_table};
 
-const SHORT: [u32; 15] = [
+static SHORT: [u32; 15] = [
     441024591, 133988875, 127809926, 270177722, 10255369, 811545849, 622506692, 266998460,
     949660850, 459551004, 419662478, 995633950, 331640121, 328968379, 590693597,
 ];
 
-const MIDDLE: [u32; 127] = [
+static MIDDLE: [u32; 127] = [
     441024591, 133988875, 127809926, 270177722, 10255369, 811545849, 622506692, 266998460,
     949660850, 459551004, 419662478, 995633950, 331640121, 328968379, 590693597, 957596490,
     589897080, 981819273, 516973577, 202836166, 784380297, 257327114, 576739315, 467745235,
@@ -30,7 +30,7 @@ const MIDDLE: [u32; 127] = [
     186671503, 748980305, 706636714, 442669399, 896015520, 264342340, 922163198,
 ];
 
-const LONG: [u32; 1023] = [
+static LONG: [u32; 1023] = [
     441024591, 133988875, 127809926, 270177722, 10255369, 811545849, 622506692, 266998460,
     949660850, 459551004, 419662478, 995633950, 331640121, 328968379, 590693597, 957596490,
     589897080, 981819273, 516973577, 202836166, 784380297, 257327114, 576739315, 467745235,
@@ -160,7 +160,7 @@ const LONG: [u32; 1023] = [
     128517999, 762230238, 844125976, 668981759,
 ];
 
-const LONGEST: [u32; 2047] = [
+static LONGEST: [u32; 2047] = [
     441024591, 133988875, 127809926, 270177722, 10255369, 811545849, 622506692, 266998460,
     949660850, 459551004, 419662478, 995633950, 331640121, 328968379, 590693597, 957596490,
     589897080, 981819273, 516973577, 202836166, 784380297, 257327114, 576739315, 467745235,
@@ -443,4 +443,18 @@ pub fn longest() -> [u32; 2047]
     ensures { result ≡ cosines_table 11 }
 {
     LONGEST
+}
+
+// The shortest of the four that serves a transform of n entries of type 2 or 3. One of type 4 asks for twice as many. Nothing is copied.
+pub fn levels(n: usize) -> &'static [u32]
+    requires { n ≤ 2048 }
+    ensures cosines { Cosines result.now }
+    ensures enough { n ≤ length result.now + 1 }
+{
+    match n {
+        ..=16 => &SHORT,
+        ..=128 => &MIDDLE,
+        ..=1024 => &LONG,
+        _ => &LONGEST,
+    }
 }

@@ -1,56 +1,54 @@
--- One answer or entry that is as it should be counts 1 (one_same), any other 0 (one_other). A loop that compares two lists from the front: after n
--- places it has counted those at which they hold the same (Compared). With none compared the count is 0 (compared_none), one place more adds
--- one (compared_same) or nothing (compared_other), and at the end all are counted (compared_all). What should stand at a place of scratch is an
--- entry of the list of all that should (marked_at). Assumes nothing.
-use mathlib.Core.List.{List}
-use mathlib.Core.Path.{◌≡◌, refl, sym}
-use Prim.Native.Nat.{ℕ, ◌+◌, ◌≤◌, ◌<◌}
-use native.Mathlib.Numerals.{add-one}
+-- Entries compared in pairs, and entries compared with what a function says of their places: as many pass as `alike` counts (counted_zip,
+-- counted_enumerate). `alike` counts from the last place down, and a chain of iterators from the first on (alike_cons). Assumes nothing.
+use mathlib.Core.Bool.{Bool, true, false}
+use mathlib.Core.List.{List, [], ◌∷◌}
+use mathlib.Core.Path.{◌≡◌, refl, sym, ap, ap₂, ◌∙◌}
+use Prim.Native.Nat.{ℕ, zero, suc, ◌+◌, ◌<◌}
+use native.Mathlib.Nat.{zero-add}
 use native.Mathlib.Omega.{arith}
-use borrow.Author.Tests.{eq-eqb, ne_eqb}
 use lib.Dec.{eqb}
 use lib.ListN.{length, get_or}
-use Rattle.ring.proofs.Table.{get_or_tab}
+use Rattle.std.proofs.lemmas.List.Sums.{sum_by-cons}
+use Rattle.std.specs.List.{count_by, zip, enumerate_from}
+use Rattle.std.specs.Prelude.{cond}
+use Rattle.ring.specs.Finite.{tab}
+use Rattle.ring.proofs.Table.{get_or_tab, length_tab}
 use Rattle.counting.specs.Counted.{one, alike}
 use Rattle.counting.specs.Lent.{mark_or_zero, marked}
 
-pub one_same : (a b : ℕ) → a ≡ b → 1 ≡ one (eqb a b)
-one_same a b e = rw (eq-eqb a b e)
+one_cond : (b : Bool) → cond b 1 0 ≡ one b
+one_cond true = refl
+one_cond false = refl
 
-pub one_other : (a b : ℕ) → (a ≡ b → ⊥) → 0 ≡ one (eqb a b)
-one_other a b e = rw (ne_eqb a b e)
-
-pub record Compared (x y : List ℕ) (n good : ℕ) : Type 0 where
-  pub within : n ≤ length x
-  pub most : good ≤ n
-  pub counted : good ≡ alike n x y
-
-pub compared_none : (x y : List ℕ) → Compared x y 0 0
+alike_cons : (n x y : ℕ) (xs ys : List ℕ) → one (eqb x y) + alike n xs ys ≡ alike (suc n) (x ∷ xs) (y ∷ ys)
 unfolding alike
-compared_none x y = record { within = omega arith; most = omega arith; counted = refl }
+alike_cons zero x y xs ys = omega arith
+alike_cons (suc n) x y xs ys = omega (arith, alike_cons n x y xs ys)
 
-module _ {x y : List ℕ} {n good after : ℕ} (compared : Compared x y n good) (below : n < length x) where
-  pub compared_same : get_or x n 0 ≡ get_or y n 0 → after ≡ good + 1 → Compared x y (n + 1) after
-  unfolding alike
-  compared_same same is = record {
-    within = omega arith;
-    most = omega arith;
-    counted = rw (add-one n, ← one_same (get_or x n 0) (get_or y n 0) same, ← compared.counted) is;
-  }
+-- one pair more at the front of what is counted
+counted_more : {X : Type 0} (test : X → Bool) (item : X) (items : List X) (x y : ℕ) (xs ys : List ℕ) → test item ≡ eqb x y → count_by test items ≡ alike (length xs) xs ys → count_by test (item ∷ items) ≡ alike (length (x ∷ xs)) (x ∷ xs) (y ∷ ys)
+counted_more test item items x y xs ys same rest =
+    sum_by-cons (λ i. cond (test i) 1 0) item items
+    ∙ ap₂ (λ (a b : ℕ). a + b) (ap (λ (b : Bool). cond b 1 0) same ∙ one_cond (eqb x y)) rest
+    ∙ alike_cons (length xs) x y xs ys
 
-  pub compared_other : (get_or x n 0 ≡ get_or y n 0 → ⊥) → after ≡ good → Compared x y (n + 1) after
-  unfolding alike
-  compared_other other is = record {
-    within = omega arith;
-    most = omega arith;
-    counted = rw (add-one n, ← one_other (get_or x n 0) (get_or y n 0) other, ← compared.counted) (omega arith);
-  }
+pub counted_zip : (xs ys : List ℕ) → length xs ≡ length ys → count_by (λ (q : ℕ × ℕ). eqb q.0 q.1) (zip xs ys) ≡ alike (length xs) xs ys
+unfolding alike
+counted_zip [] ys same = refl
+counted_zip (x ∷ xs) [] same = absurd (omega arith)
+counted_zip (x ∷ xs) (y ∷ ys) same = counted_more _ (x, y) (zip xs ys) x y xs ys refl (counted_zip xs ys (omega arith))
 
-pub compared_all : {x y : List ℕ} {n good : ℕ} → Compared x y n good → length x ≤ n → good ≡ alike (length x) x y
-compared_all {x} {y} {n} {good} compared past =
-    let all : n ≡ length x = omega arith in
-    rw (← all) compared.counted
+counted_from : (f : ℕ → ℕ) (from : ℕ) (xs ys : List ℕ) → length ys ≡ length xs → ((k : ℕ) → k < length xs → f (from + k) ≡ get_or ys k 0) → count_by (λ (q : ℕ × ℕ). eqb q.1 (f q.0)) (enumerate_from from xs) ≡ alike (length xs) xs ys
+unfolding alike
+counted_from f from [] ys same holds = refl
+counted_from f from (x ∷ xs) [] same holds = absurd (omega arith)
+counted_from f from (x ∷ xs) (y ∷ ys) same holds =
+    let first : f from ≡ y = ap f (omega arith) ∙ holds 0 (omega arith) in
+    counted_more _ (from, x) (enumerate_from (from + 1) xs) x y xs ys (ap (λ (v : ℕ). eqb x v) first)
+    (counted_from f (from + 1) xs ys (omega arith) (λ k below. ap f (omega arith) ∙ holds (suc k) (omega arith)))
 
-pub marked_at : (n l k : ℕ) → k < l → mark_or_zero n k ≡ get_or (marked n l) k 0
+pub counted_enumerate : (n : ℕ) (xs : List ℕ) → count_by (λ (q : ℕ × ℕ). eqb q.1 (mark_or_zero n q.0)) (enumerate_from 0 xs) ≡ alike (length xs) xs (marked n (length xs))
 unfolding marked
-marked_at n l k below = sym (get_or_tab l (mark_or_zero n) k 0 below)
+counted_enumerate n xs =
+    counted_from (mark_or_zero n) 0 xs (tab (length xs) (mark_or_zero n)) (length_tab (length xs) (mark_or_zero n))
+    (λ k below. ap (mark_or_zero n) (zero-add k) ∙ sym (get_or_tab (length xs) (mark_or_zero n) k 0 below))

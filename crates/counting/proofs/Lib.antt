@@ -1,2 +1,3 @@
 pub mod Compared
-pub mod Stored
+pub mod Products
+pub mod Zeros

@@ -1,3 +1,5 @@
 pub mod Counted
 pub mod Lent
 pub mod Added
+pub mod Printed
+pub mod Cases

@@ -1,103 +1,126 @@
-// How many of something there were, and how many of these were as they should be. A count that would pass the largest number stays there.
-ghost use Rattle.std.specs.Prelude.{◌≡◌, ◌+◌, min, eqb};
-ghost use Rattle.counting.specs.Added.{Empty, Added};
+// How many of something there were, and how many of these were as they should be.
+ghost use Rattle.std.specs.Prelude.{◌≡◌, eqb, Some};
+ghost use Rattle.answers.specs.Said.{says, said_number};
+ghost use Rattle.counting.specs.Added.{Empty, Added, AddedUp};
 ghost use Rattle.counting.specs.Counted.{one};
+ghost use Rattle.counting.specs.Printed.{count_text};
 
-#[derive(Clone, Copy)]
+use answers::Refusal;
+use std::fmt;
+use std::ops::{Add, AddAssign};
+
+// A count that would pass the largest number stays there. `{}` prints it as "3 of 4".
+#[derive(Clone, Copy, Debug, Default, PartialEq)]
 pub struct Count {
     pub all: u64,
     pub good: u64,
 }
 
+impl Count {
+    // Of so many, so many are as they should be. Two numbers, of which a `From` would not say which is which.
+    pub fn of(all: usize, good: usize) -> Count
+        ensures all { result.all ≡ all }
+        ensures good { result.good ≡ good }
+    {
+        Count {
+            all: all as u64,
+            good: good as u64,
+        }
+    }
+
+    // One answer, which should be `right`.
+    pub fn of_answer(given: Result<(), Refusal>, right: Result<(), Refusal>) -> Count
+        ensures all { result.all ≡ 1 }
+        ensures good { result.good ≡ one (eqb (said_number (says given)) (said_number (says right))) }
+    {
+        Count {
+            all: 1,
+            good: u64::from(given == right),
+        }
+    }
+}
+
+impl Add for Count {
+    type Output = Count;
+
+    ghost add_gives = { Added };
+
+    fn add(self, other: Count) -> Count {
+        Count {
+            all: self.all.saturating_add(other.all),
+            good: self.good.saturating_add(other.good),
+        }
+    }
+}
+
+impl fmt::Display for Count {
+    ghost output = { λ count. Some (count_text count) };
+
+    fn fmt<W: fmt::Write>(&self, f: &mut fmt::Formatter<W>) -> fmt::Result {
+        write!(f, "{} of {}", self.good, self.all)
+    }
+}
+
 // What a test counts: the answers of its calls, the outputs that it compared, and the lent entries that it looked at after a call.
-#[derive(Clone, Copy)]
+#[derive(Clone, Copy, Debug, Default, PartialEq)]
 pub struct Tally {
     pub answers: Count,
     pub outputs: Count,
     pub lent: Count,
 }
 
-fn sum(a: u64, b: u64) -> u64
-    ensures { result ≡ min (a + b) 18446744073709551615 }
-{
-    if a <= u64::MAX - b { a + b } else { u64::MAX }
-}
+impl Tally {
+    // One call: its answer, which should be `right`, and the lent entries that it left.
+    pub fn of_call(given: Result<(), Refusal>, right: Result<(), Refusal>, lent: Count) -> Tally
+        ensures answer { (result.answers.all ≡ 1) × (result.answers.good ≡ one (eqb (said_number (says given)) (said_number (says right)))) }
+        ensures outputs { Empty result.outputs }
+        ensures lent { result.lent ≡ lent }
+    {
+        Tally {
+            answers: Count::of_answer(given, right),
+            lent,
+            ..Tally::default()
+        }
+    }
 
-pub fn none() -> Count
-    ensures { Empty result }
-{
-    Count { all: 0, good: 0 }
-}
+    // Lent entries alone. No `From`: a count could as well be one of answers or of outputs.
+    pub fn of_lent(lent: Count) -> Tally
+        ensures answers { Empty result.answers }
+        ensures outputs { Empty result.outputs }
+        ensures lent { result.lent ≡ lent }
+    {
+        Tally {
+            lent,
+            ..Tally::default()
+        }
+    }
 
-// One answer, which should be `right`.
-pub fn answer(given: u32, right: u32) -> Count
-    ensures { (result.all ≡ 1) × (result.good ≡ one (eqb given right)) }
-{
-    if given == right {
-        Count { all: 1, good: 1 }
-    } else {
-        Count { all: 1, good: 0 }
+    // The same calls, and the outputs that were compared after them.
+    pub fn with_outputs(self, outputs: Count) -> Tally
+        ensures { result ≡ record self { outputs = outputs } }
+    {
+        Tally { outputs, ..self }
     }
 }
 
-pub fn more(a: Count, b: Count) -> Count
-    ensures { Added a b result }
-{
-    Count {
-        all: sum(a.all, b.all),
-        good: sum(a.good, b.good),
+impl Add for Tally {
+    type Output = Tally;
+
+    ghost add_gives = { AddedUp };
+
+    fn add(self, other: Tally) -> Tally {
+        Tally {
+            answers: self.answers + other.answers,
+            outputs: self.outputs + other.outputs,
+            lent: self.lent + other.lent,
+        }
     }
 }
 
-pub fn nothing() -> Tally
-    ensures { Empty result.answers × Empty result.outputs × Empty result.lent }
-{
-    Tally {
-        answers: none(),
-        outputs: none(),
-        lent: none(),
-    }
-}
+impl AddAssign for Tally {
+    ghost add_assign_gives = { AddedUp };
 
-// One call: its answer, which should be `right`, and the lent entries that it left.
-pub fn called(given: u32, right: u32, lent: Count) -> Tally
-    ensures { (result.answers.all ≡ 1) × (result.answers.good ≡ one (eqb given right)) × Empty result.outputs × (result.lent ≡ lent) }
-{
-    Tally {
-        answers: answer(given, right),
-        outputs: none(),
-        lent: lent,
-    }
-}
-
-// Lent entries alone.
-pub fn lent_entries(lent: Count) -> Tally
-    ensures { Empty result.answers × Empty result.outputs × (result.lent ≡ lent) }
-{
-    Tally {
-        answers: none(),
-        outputs: none(),
-        lent: lent,
-    }
-}
-
-pub fn together(a: Tally, b: Tally) -> Tally
-    ensures { Added a.answers b.answers result.answers × Added a.outputs b.outputs result.outputs × Added a.lent b.lent result.lent }
-{
-    Tally {
-        answers: more(a.answers, b.answers),
-        outputs: more(a.outputs, b.outputs),
-        lent: more(a.lent, b.lent),
-    }
-}
-
-// Two calls and the outputs that were compared after them.
-pub fn pair(a: Tally, b: Tally, outputs: Count) -> Tally
-    ensures { Added a.answers b.answers result.answers × (result.outputs ≡ outputs) × Added a.lent b.lent result.lent }
-{
-    Tally {
-        answers: more(a.answers, b.answers),
-        outputs: outputs,
-        lent: more(a.lent, b.lent),
+    fn add_assign(&mut self, other: Tally) {
+        *self = *self + other;
     }
 }

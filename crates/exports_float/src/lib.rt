@@ -1,5 +1,5 @@
 // The C interface of the floats (include/kultygash.h): each call with document 01's number for its answer, where 0 is done. A slice crosses as a pointer and a length.
-// Here are the transforms in place; the MDCT (`mdct`) is beside it.
+// Here are the transforms in place; the MDCT (`mdct`) is beside it. The two tables cross side by side, since a struct of slices can't.
 #![tactic(auto)]
 
 ghost use Rattle.sums.specs.Returned.{Returned};

@@ -1,57 +1,42 @@
 // The cases of a recorded file, one after the other.
-ghost use Rattle.std.specs.Prelude.{◌≡◌, ◌+◌, ◌*◌, ◌/◌, ◌≤◌, length};
+ghost use Rattle.float_words.specs.Replayed.{Replayed};
+ghost use Rattle.float_words.specs.Routine.{outputs_of, scratch_of};
 
-use crate::block;
-use counting::count;
+use crate::{imdct, in_place, mdct};
 use counting::count::Tally;
-use float_words::file::{TABLES, after, length_at};
-use float_words::in_place;
-use float_words::words::word_at;
+use float_words::file::{Case, Cases, Tables};
+use float_words::routine::Routine;
+use type2and3_float::calls as type2and3;
+use type4_float::calls as type4;
 
-// One case, whose words from `at` on follow its length.
-fn replay(
-    routine: usize,
-    n: usize,
-    bytes: &[u8],
-    at: usize,
-    cosines: &[f64],
-    sines: &[f64],
-) -> Tally
-    requires { (n ≤ 256) × (at + 11 * n ≤ 18446744073709551615) }
-    ensures { result.answers.all ≡ 1 }
+// One case. The fast routines are lent the tables of the file.
+pub fn replay(case: Case<'_>, tables: Tables<'_>) -> Tally
+    ensures { Replayed (outputs_of case.entry.routine case.entry.n) (scratch_of case.entry.routine case.entry.n) result }
 {
-    if routine < 4 {
-        in_place::naive(routine, n, bytes, at)
-    } else if routine < 10 {
-        in_place::tabled(routine, n, bytes, at, cosines, sines)
-    } else if routine < 12 {
-        block::naive(routine, n, bytes, at)
-    } else {
-        block::tabled(routine, n, bytes, at, cosines, sines)
+    let Case { routine, n, words } = case;
+    match routine {
+        Routine::Dct2Naive => in_place::naive(n, words, type2and3::dct2_naive),
+        Routine::Dst2Naive => in_place::naive(n, words, type2and3::dst2_naive),
+        Routine::Dct3Naive => in_place::naive(n, words, type2and3::dct3_naive),
+        Routine::Dst3Naive => in_place::naive(n, words, type2and3::dst3_naive),
+        Routine::Dct2Fast => in_place::fast(n, tables, words, type2and3::dct2_fast),
+        Routine::Dst2Fast => in_place::fast(n, tables, words, type2and3::dst2_fast),
+        Routine::Dct3Fast => in_place::fast(n, tables, words, type2and3::dct3_fast),
+        Routine::Dst3Fast => in_place::fast(n, tables, words, type2and3::dst3_fast),
+        Routine::Dct4Fast => in_place::fast(n, tables, words, type4::dct4_fast),
+        Routine::Dst4Fast => in_place::fast(n, tables, words, type4::dst4_fast),
+        Routine::MdctNaive => mdct::naive(n, words),
+        Routine::ImdctNaive => imdct::naive(n, words),
+        Routine::MdctFast => mdct::fast(n, tables, words),
+        Routine::ImdctFast => imdct::fast(n, tables, words),
     }
 }
 
-// The case at a place, if it is of the routine.
-fn replay_if(routine: usize, bytes: &[u8], at: usize, cosines: &[f64], sines: &[f64]) -> Tally
-    requires { at ≤ length bytes.now / 8 + 2048 }
-{
-    if word_at(bytes, at) == routine as u64 {
-        let n = length_at(bytes, at);
-        replay(routine, n, bytes, at + 2, cosines, sines)
-    } else {
-        count::nothing()
-    }
-}
-
-// All whole cases of a routine.
-pub fn replay_all(routine: usize, bytes: &[u8], cosines: &[f64], sines: &[f64]) -> Tally {
-    let mut sum = count::nothing();
-    let mut at = TABLES;
-    let mut next = after(bytes, at);
-    while at < next {
-        sum = count::together(sum, replay_if(routine, bytes, at, cosines, sines));
-        at = next;
-        next = after(bytes, at);
+// All whole cases of a routine at the front of words.
+pub fn replay_all(routine: Routine, words: &[u64], tables: Tables<'_>) -> Tally {
+    let mut sum = Tally::default();
+    for case in (Cases { words }).filter(|case| case.routine == routine) {
+        sum += replay(case, tables);
     }
     sum
 }

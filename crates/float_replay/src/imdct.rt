@@ -1,102 +1,63 @@
-// IMDCT on recorded cases: 11 is imdct_naive and 13 imdct_fast.
-ghost use Rattle.std.specs.Prelude.{◌≡◌, ◌+◌, ◌*◌, ◌≤◌, length};
+// IMDCT on recorded cases.
+ghost use Rattle.std.specs.Prelude.{◌≡◌, ◌*◌, ◌≤◌, length};
 ghost use Rattle.float_words.specs.Replayed.{Replayed};
 
-use answers::Answer;
+use crate::{FOUR_TIMES, TWICE};
+use answers::Refusal;
 use counting::count::Tally;
-use float_words::compare::compared_both;
-use float_words::words::{load, not_a_number};
+use float_words::compare::{called, recorded};
+use float_words::file::{LONGEST, Tables};
+use float_words::words::floats_of;
 use mdct_float::calls;
 
-// The call, by the routine's number, with all that is recorded of its input in one slice: the input, what its outputs held, and the window. The naive one has its cosines
-// for a table.
-fn by_number(
-    routine: usize,
-    n: usize,
-    cosines: &[f64],
-    sines: &[f64],
-    read: &[f64],
-    first: &mut [f64],
-    second: &mut [f64],
-    scratch: &mut [f64],
-) -> Answer
-    requires { 5 * n ≤ length read.now }
-{
-    let three = 3 * n;
-    let five = 5 * n;
-    let input = &read[0..n];
-    let window = &read[three..five];
-    match routine {
-        11 => calls::imdct_naive(n, cosines, input, first, second, window, scratch),
-        _ => calls::imdct_fast(n, cosines, sines, input, first, second, window, scratch),
-    }
-}
-
-// All input into one slice, and what the outputs held into these two.
-fn load_all(
-    n: usize,
-    bytes: &[u8],
-    at: usize,
-    read: &mut [f64],
-    first: &mut [f64],
-    second: &mut [f64],
-)
-    requires { (length read.old ≡ 5 * n) × (length first.old ≡ n) × (length second.old ≡ n) × (at + 7 * n ≤ 18446744073709551615) }
-{
-    load(bytes, at, read);
-    load(bytes, at + n, first);
-    load(bytes, at + 2 * n, second);
-}
-
-// The words from `at` on are the input, the two outputs before the call, the window and the two outputs after the call.
-fn replay(
-    routine: usize,
-    n: usize,
-    bytes: &[u8],
-    at: usize,
-    cosines: &[f64],
-    sines: &[f64],
-    read: &mut [f64],
-    first: &mut [f64],
-    second: &mut [f64],
-    scratch: &mut [f64],
-) -> Tally
-    requires { (length read.old ≡ 5 * n) × (length first.old ≡ n) × (length second.old ≡ n) × (at + 7 * n ≤ 18446744073709551615) }
-    ensures { Replayed (length first.old + length second.old) (length scratch.old) result }
-{
-    load_all(n, bytes, at, read, first, second);
-    let answer = by_number(routine, n, cosines, sines, read, first, second, scratch);
-    compared_both(answer, bytes, at + 5 * n, first, second, scratch)
-}
-
-// A case with tables that are lent, and with `room` entries of scratch, which are NaN: that shows in what is made of it.
-pub fn tabled(
-    routine: usize,
-    n: usize,
-    room: usize,
-    bytes: &[u8],
-    at: usize,
-    cosines: &[f64],
-    sines: &[f64],
-) -> Tally
-    requires { (n ≤ 256) × (room ≤ 512) × (at + 7 * n ≤ 18446744073709551615) }
+// The words are the input, the two outputs before the call, the window, and the two outputs after it. The call is lent the input, the outputs, the window and `room` entries of
+// scratch, which are NaN: that shows in what is made of it.
+fn replay<F>(n: usize, room: usize, words: &[u64], call: F) -> Tally
+where
+    F: FnOnce(&[f64], &mut [f64], &mut [f64], &[f64], &mut [f64]) -> Result<(), Refusal>,
+    requires callable { F.IsAlwaysCallable call }
+    requires short { n ≤ 256 }
+    requires room { room ≤ 512 }
+    requires words { length words.now ≡ 7 * n }
     ensures { Replayed (2 * n) room result }
 {
-    let mut read = [0.0; 1280];
-    let mut first = [0.0; 256];
-    let mut second = [0.0; 256];
-    let mut scratch = [not_a_number(); 512];
-    let size = 5 * n;
-    replay(
-        routine,
-        n,
-        bytes,
-        at,
-        cosines,
-        sines,
-        &mut read[0..size],
-        &mut first[0..n],
-        &mut second[0..n],
-        &mut scratch[0..room],
-    )
+    let (input, words) = words.split_at(n);
+    let (first, words) = words.split_at(n);
+    let (second, words) = words.split_at(n);
+    let (window, after) = words.split_at(2 * n);
+    let (first_after, second_after) = after.split_at(n);
+    let input = floats_of::<LONGEST>(input);
+    let window = floats_of::<TWICE>(window);
+    let mut first = floats_of::<LONGEST>(first);
+    let mut second = floats_of::<LONGEST>(second);
+    let mut scratch = [f64::NAN; TWICE];
+    let scratch = &mut scratch[..room];
+    let answer = call(&input, &mut first, &mut second, &window, scratch);
+    let outputs = recorded(&first, first_after) + recorded(&second, second_after);
+    called(answer, outputs, scratch)
+}
+
+// The naive way needs no scratch. Its cosines, 4n entries, stand before the rest.
+pub fn naive(n: usize, words: &[u64]) -> Tally
+    requires short { n ≤ 256 }
+    requires words { length words.now ≡ 11 * n }
+    ensures { Replayed (2 * n) 0 result }
+{
+    let (cosines, words) = words.split_at(4 * n);
+    let cosines = floats_of::<FOUR_TIMES>(cosines);
+    replay(n, 0, words, |input, first, second, window, scratch| {
+        calls::imdct_naive(n, &cosines, input, first, second, window, scratch)
+    })
+}
+
+// The fast way needs 2n entries of scratch. Its tables are lent.
+pub fn fast(n: usize, tables: Tables<'_>, words: &[u64]) -> Tally
+    requires short { n ≤ 256 }
+    requires words { length words.now ≡ 7 * n }
+    ensures { Replayed (2 * n) (2 * n) result }
+{
+    let Tables { cosines, sines } = tables;
+    replay(n, 2 * n, words, |input, first, second, window, scratch| {
+        calls::imdct_fast(n, cosines, sines, input, first, second, window, scratch)
+    })
 }

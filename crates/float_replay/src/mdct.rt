@@ -1,82 +1,59 @@
-// MDCT on recorded cases: 10 is mdct_naive and 12 mdct_fast.
-ghost use Rattle.std.specs.Prelude.{◌≡◌, ◌+◌, ◌*◌, ◌≤◌, length};
+// MDCT on recorded cases.
+ghost use Rattle.std.specs.Prelude.{◌≡◌, ◌*◌, ◌≤◌, length};
 ghost use Rattle.float_words.specs.Replayed.{Replayed};
 
-use answers::Answer;
+use crate::{FOUR_TIMES, TWICE};
+use answers::Refusal;
 use counting::count::Tally;
-use float_words::compare::compared;
-use float_words::words::{load, not_a_number};
+use float_words::compare::{called, recorded};
+use float_words::file::{LONGEST, Tables};
+use float_words::words::floats_of;
 use mdct_float::calls;
 
-// The call, by the routine's number, with all that is recorded of its input in one slice: two segments and the window. The naive one has its cosines for a table.
-fn by_number(
-    routine: usize,
-    n: usize,
-    cosines: &[f64],
-    sines: &[f64],
-    read: &[f64],
-    output: &mut [f64],
-    scratch: &mut [f64],
-) -> Answer
-    requires { 4 * n ≤ length read.now }
-{
-    let two = 2 * n;
-    let four = 4 * n;
-    let first = &read[0..n];
-    let second = &read[n..two];
-    let window = &read[two..four];
-    match routine {
-        10 => calls::mdct_naive(n, cosines, first, second, output, window, scratch),
-        _ => calls::mdct_fast(n, cosines, sines, first, second, output, window, scratch),
-    }
-}
-
-// The words from `at` on are the two segments, the window and the output.
-fn replay(
-    routine: usize,
-    n: usize,
-    bytes: &[u8],
-    at: usize,
-    cosines: &[f64],
-    sines: &[f64],
-    read: &mut [f64],
-    output: &mut [f64],
-    scratch: &mut [f64],
-) -> Tally
-    requires { (length read.old ≡ 4 * n) × (length output.old ≡ n) × (at + 5 * n ≤ 18446744073709551615) }
-    ensures { Replayed n (length scratch.old) result }
-{
-    load(bytes, at, read);
-    let answer = by_number(routine, n, cosines, sines, read, output, scratch);
-    compared(answer, bytes, at + 4 * n, output, scratch)
-}
-
-// A case with tables that are lent, and with `room` entries of scratch. Output and scratch are NaN, which shows in what is made of it.
-pub fn tabled(
-    routine: usize,
-    n: usize,
-    room: usize,
-    bytes: &[u8],
-    at: usize,
-    cosines: &[f64],
-    sines: &[f64],
-) -> Tally
-    requires { (n ≤ 256) × (room ≤ 512) × (at + 5 * n ≤ 18446744073709551615) }
+// The words are the two segments, the window and the output. The call is lent the segments, the output, the window and `room` entries of scratch. Output and scratch are NaN,
+// which shows in what is made of it.
+fn replay<F>(n: usize, room: usize, words: &[u64], call: F) -> Tally
+where
+    F: FnOnce(&[f64], &[f64], &mut [f64], &[f64], &mut [f64]) -> Result<(), Refusal>,
+    requires callable { F.IsAlwaysCallable call }
+    requires short { n ≤ 256 }
+    requires room { room ≤ 512 }
+    requires words { length words.now ≡ 5 * n }
     ensures { Replayed n room result }
 {
-    let mut read = [0.0; 1024];
-    let mut output = [not_a_number(); 256];
-    let mut scratch = [not_a_number(); 512];
-    let size = 4 * n;
-    replay(
-        routine,
-        n,
-        bytes,
-        at,
-        cosines,
-        sines,
-        &mut read[0..size],
-        &mut output[0..n],
-        &mut scratch[0..room],
-    )
+    let (read, after) = words.split_at(4 * n);
+    let read = floats_of::<FOUR_TIMES>(read);
+    let (segments, window) = read.split_at(2 * n);
+    let (first, second) = segments.split_at(n);
+    let mut output = [f64::NAN; LONGEST];
+    let output = &mut output[..n];
+    let mut scratch = [f64::NAN; TWICE];
+    let scratch = &mut scratch[..room];
+    let answer = call(first, second, output, window, scratch);
+    called(answer, recorded(output, after), scratch)
+}
+
+// The naive way needs no scratch. Its cosines, 4n entries, stand before the rest.
+pub fn naive(n: usize, words: &[u64]) -> Tally
+    requires short { n ≤ 256 }
+    requires words { length words.now ≡ 9 * n }
+    ensures { Replayed n 0 result }
+{
+    let (cosines, words) = words.split_at(4 * n);
+    let cosines = floats_of::<FOUR_TIMES>(cosines);
+    replay(n, 0, words, |first, second, output, window, scratch| {
+        calls::mdct_naive(n, &cosines, first, second, output, window, scratch)
+    })
+}
+
+// The fast way needs 2n entries of scratch. Its tables are lent.
+pub fn fast(n: usize, tables: Tables<'_>, words: &[u64]) -> Tally
+    requires short { n ≤ 256 }
+    requires words { length words.now ≡ 5 * n }
+    ensures { Replayed n (2 * n) result }
+{
+    let Tables { cosines, sines } = tables;
+    replay(n, 2 * n, words, |first, second, output, window, scratch| {
+        calls::mdct_fast(n, cosines, sines, first, second, output, window, scratch)
+    })
 }

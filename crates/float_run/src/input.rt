@@ -5,7 +5,8 @@ ghost use Rattle.std.specs.Io.KnownBytes.{Consumes, IsAtEnd};
 use std::io;
 use std::io::Read;
 
-// Reads until the slice is full or the input ends, and says how many bytes came: they stand at the front of the slice, in the input's order.
+// Reads until the slice is full or the input ends, and says how many bytes came: they stand at the front of the slice, in the input's order. A loop, since what std says of
+// `reader.take(limit).read_to_end(..)` leaves open what the reader has left.
 pub fn read_full<R: Read>(reader: &mut R, bytes: &mut [u8]) -> io::Result<usize>
     ensures within { IfOk result (λ n. n ≤ length bytes.new) }
     ensures front { IfOk result (λ n. Consumes (R.remaining reader.old) (R.remaining reader.new) (take n bytes.new)) }

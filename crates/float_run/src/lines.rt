@@ -1,91 +1,52 @@
 // What is replayed, and the lines that say so.
-use counting::count;
-use counting::count::{Count, Tally};
+use counting::count::Tally;
+use counting::lines::Accepted;
 use float_replay::cases;
 use float_words::file;
+use float_words::file::{TABLES, TURN, Tables};
+use float_words::routine::Routine;
+use float_words::words::words_of;
 use std::io;
 use std::io::Print;
 
-fn name(rt: &impl Print, routine: usize) -> io::Result<()> {
-    match routine {
-        0 => print::text(rt, b"dct2_naive: "),
-        1 => print::text(rt, b"dst2_naive: "),
-        2 => print::text(rt, b"dct3_naive: "),
-        3 => print::text(rt, b"dst3_naive: "),
-        4 => print::text(rt, b"dct2_fast: "),
-        5 => print::text(rt, b"dst2_fast: "),
-        6 => print::text(rt, b"dct3_fast: "),
-        7 => print::text(rt, b"dst3_fast: "),
-        8 => print::text(rt, b"dct4_fast: "),
-        9 => print::text(rt, b"dst4_fast: "),
-        10 => print::text(rt, b"mdct_naive: "),
-        11 => print::text(rt, b"imdct_naive: "),
-        12 => print::text(rt, b"mdct_fast: "),
-        _ => print::text(rt, b"imdct_fast: "),
+// All cases of each routine, a line for each.
+fn routines(rt: &impl Print, words: &[u64], tables: Tables<'_>) -> io::Result<Tally> {
+    let mut sum = Tally::default();
+    for routine in Routine::ALL {
+        let tally = cases::replay_all(routine, words, tables);
+        let counts = Accepted {
+            tally,
+            outputs: "words are the recorded ones",
+            lent: "entries of scratch are zero",
+        };
+        println!(rt; "{routine}: {counts}")?;
+        sum += tally;
     }
-}
-
-// All cases of one routine.
-fn routine(
-    rt: &impl Print,
-    number: usize,
-    bytes: &[u8],
-    cosines: &[f64],
-    sines: &[f64],
-) -> io::Result<Tally> {
-    let tally = cases::replay_all(number, bytes, cosines, sines);
-    name(rt, number)?;
-    print::accepted(
-        rt,
-        tally,
-        b" words are the recorded ones; ",
-        b" entries of scratch are zero\n",
-    )?;
-    Ok(tally)
-}
-
-fn wrong(count: Count) -> u64 {
-    if count.good < count.all {
-        count.all - count.good
-    } else {
-        0
-    }
+    Ok(sum)
 }
 
 // The words that were compared, and all that was not as it should be.
 fn total(rt: &impl Print, sum: Tally) -> io::Result<()> {
-    let all = count::more(count::more(sum.answers, sum.outputs), sum.lent);
-    print::text(rt, b"words ")?;
-    print::number(rt, sum.outputs.all)?;
-    print::text(rt, b" differences ")?;
-    print::number(rt, wrong(all))?;
-    print::text(rt, b"\n")
+    let all = sum.answers + sum.outputs + sum.lent;
+    let words = sum.outputs.all;
+    let differences = all.all.saturating_sub(all.good);
+    println!(rt; "words {words} differences {differences}")
 }
 
-fn routines(rt: &impl Print, bytes: &[u8], cosines: &[f64], sines: &[f64]) -> io::Result<()> {
-    let mut sum = count::nothing();
-    for number in 0..14 {
-        sum = count::together(sum, routine(rt, number, bytes, cosines, sines)?);
-    }
-    total(rt, sum)
-}
-
-fn tabled(
-    rt: &impl Print,
-    bytes: &[u8],
-    cosines: &mut [f64; 8192],
-    sines: &mut [f64; 8192],
-) -> io::Result<()> {
-    file::load_tables(bytes, cosines, sines);
-    routines(rt, bytes, cosines, sines)
-}
-
-pub fn replay(rt: &impl Print, bytes: &[u8]) -> io::Result<()> {
-    let mut cosines = [0.0; 8192];
-    let mut sines = [0.0; 8192];
-    tabled(rt, bytes, &mut cosines, &mut sines)?;
-    if !file::whole(bytes) {
-        print::text(rt, b"malformed\n")?;
+pub fn replay(rt: &(impl Print + AllocGlobal), bytes: &[u8]) -> io::Result<()> {
+    let words = words_of(rt.alloc(), bytes)?;
+    let mut cosines = vec![in rt.alloc(); 0.0; TURN]?;
+    let mut sines = vec![in rt.alloc(); 0.0; TURN]?;
+    file::load_tables(&words, &mut cosines, &mut sines);
+    let tables = Tables {
+        cosines: &cosines,
+        sines: &sines,
+    };
+    let cases = words.get(TABLES..).unwrap_or(&[]);
+    let sum = routines(rt, cases, tables)?;
+    total(rt, sum)?;
+    if bytes.len() % 8 != 0 || !file::whole(cases) {
+        println!(rt; "malformed")?;
     }
     Ok(())
 }

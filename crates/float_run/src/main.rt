@@ -7,8 +7,11 @@ mod lines;
 use std::io;
 use std::io::Input;
 
+// As much of the input as is replayed.
+const LIMIT: usize = 131072;
+
 fn main(rt: HostRuntime) -> io::Result<()> {
-    let mut bytes = [0u8; 131072];
+    let mut bytes = vec![in rt.alloc(); 0u8; LIMIT]?;
     let mut reader = rt.reader();
     let read = input::read_full(&mut reader, &mut bytes)?;
     lines::replay(&rt, &bytes[..read])

@@ -1,21 +1,13 @@
--- What a program learns of a float: only NaN differs from itself (nan_only), what does not is no NaN (no_nan), a NaN's pattern is read as NaN (nan_of), and floats whose
--- bits are the same are the same (bits_only). Assumes nothing.
+-- Floats by their bits: a NaN's pattern is read as NaN (nan_of), and two floats are alike exactly where they are one float (alike_only). Assumes nothing.
 use mathlib.Core.Path.{◌≡◌, refl, sym, ap, ◌∙◌, subst}
-use mathlib.Core.Bool.{true, false, not}
+use mathlib.Core.Bool.{true}
+use mathlib.Core.Logic.{◌↔◌}
 use Prim.Native.Nat.{ℕ}
+use borrow.Author.Tests.{eqb-true, eq-eqb}
 use lib.Dec.{T}
-use lib.Ieee.{Float, nan, inf, fin, binary64, ne, is_nan, fits, nan_bits, of_bits, to_bits}
+use lib.Ieee.{Float, nan, inf, fin, binary64, is_nan, fits, nan_bits, of_bits, to_bits}
 use lib.Ieee.Bits.{nan_bits_is, of_bits-to_bits}
-use lib.Ieee.Compare.{differs_from_itself, nan_differs}
-
-pub nan_only : (x : Float) → ne x x ≡ true → x ≡ nan
-nan_only x differs = differs_from_itself x (subst T (sym differs) tt)
-
-pub no_nan : (x : Float) → ne x x ≡ false → T (not (is_nan x))
-unfolding is_nan
-no_nan nan equals = subst T (sym nan_differs ∙ equals) tt
-no_nan (inf s) equals = tt
-no_nan (fin s m e) equals = tt
+use Rattle.float_words.specs.Words.{alike}
 
 is_nan_only : (x : Float) → is_nan x ≡ true → x ≡ nan
 unfolding is_nan
@@ -29,5 +21,17 @@ nan_of word is = sym (is_nan_only (of_bits binary64 word) (sym (nan_bits_is bina
 read_back : (x : Float) → fits binary64 x ≡ true → of_bits binary64 (to_bits binary64 x) ≡ x
 read_back x held = of_bits-to_bits binary64 x (subst T (sym held) tt)
 
-pub bits_only : (a b : Float) → fits binary64 a ≡ true → fits binary64 b ≡ true → to_bits binary64 a ≡ to_bits binary64 b → a ≡ b
+bits_only : (a b : Float) → fits binary64 a ≡ true → fits binary64 b ≡ true → to_bits binary64 a ≡ to_bits binary64 b → a ≡ b
 bits_only a b held-a held-b same = sym (read_back a held-a) ∙ ap (of_bits binary64) same ∙ read_back b held-b
+
+pub alike_only : (a b : Float) → fits binary64 a ≡ true → fits binary64 b ≡ true → (alike a b ≡ true) ↔ (a ≡ b)
+unfolding is_nan alike
+alike_only nan nan held-a held-b = (λ _. refl, λ _. refl)
+alike_only nan (inf s) held-a held-b = (λ never. cc, λ never. cc)
+alike_only nan (fin s m e) held-a held-b = (λ never. cc, λ never. cc)
+alike_only (inf s) nan held-a held-b = (λ never. cc, λ never. cc)
+alike_only (fin s m e) nan held-a held-b = (λ never. cc, λ never. cc)
+alike_only (inf s) (inf t) held-a held-b = (λ same. bits_only _ _ held-a held-b (eqb-true _ _ same), λ equal. eq-eqb _ _ (ap (to_bits binary64) equal))
+alike_only (inf s) (fin t m e) held-a held-b = (λ same. bits_only _ _ held-a held-b (eqb-true _ _ same), λ equal. eq-eqb _ _ (ap (to_bits binary64) equal))
+alike_only (fin s m e) (inf t) held-a held-b = (λ same. bits_only _ _ held-a held-b (eqb-true _ _ same), λ equal. eq-eqb _ _ (ap (to_bits binary64) equal))
+alike_only (fin s m e) (fin t n f) held-a held-b = (λ same. bits_only _ _ held-a held-b (eqb-true _ _ same), λ equal. eq-eqb _ _ (ap (to_bits binary64) equal))

@@ -1,2 +1,3 @@
 pub mod Bits
-pub mod Agreeing
+pub mod Pairs
+pub mod Read

@@ -1,86 +1,110 @@
-// Where the cases of a recorded file stand. Its first words are the entries of the cosine table and then of the sine table, of each every eighth: enough for types 2 and 3
-// up to 256 entries, and for type 4 and the fast MDCT up to 128. A case is the routine's number, the length n, and as many words more as `words_of` says. After the last case
-// stands a word whose bits are all set, and then nothing.
-ghost use Rattle.std.specs.Prelude.{◌≡◌, ◌+◌, ◌/◌, ◌≤◌, length};
-ghost use Rattle.float_words.specs.Words.{eighths};
+// Where the tables and the cases of a recorded file stand. Its first words are the entries of the cosine table and then of the sine table, of each every eighth: enough for
+// types 2 and 3 up to 256 entries, and for type 4 and the fast MDCT up to 128. A case is the routine's number, the length n, and as many words more as the routine has. After
+// the last case stands a word whose bits are all set, and then nothing.
+ghost use Rattle.std.specs.Prelude.{◌≡◌, ◌+◌, ◌≤◌, ◌++◌, length, IfSome, MatchOption};
+ghost use Rattle.std.specs.Iterator.{at_most};
+ghost use Rattle.float_words.specs.Routine.{words_of, recorded};
+ghost use Rattle.float_words.specs.Words.{eighth_at, eighths};
 
-use crate::words::{load_eighths, word_at};
+use crate::routine::Routine;
+use crate::words::float_of;
 
 // The words before the first case.
 pub const TABLES: usize = 2048;
 
-// The two tables.
-pub fn load_tables(bytes: &[u8], cosines: &mut [f64], sines: &mut [f64])
-    requires { (length cosines.old ≡ 8192) × (length sines.old ≡ 8192) }
-    ensures { (cosines.new ≡ eighths (length cosines.old) bytes.now 0) × (sines.new ≡ eighths (length sines.old) bytes.now 1024) }
-{
-    load_eighths(bytes, 0, cosines);
-    load_eighths(bytes, TABLES / 2, sines);
+// The entries of a table, which is a whole turn.
+pub const TURN: usize = 8192;
+
+// The longest case.
+pub const LONGEST: usize = 256;
+
+// A cosine table and a sine table, which are lent.
+#[derive(Clone, Copy)]
+pub struct Tables<'a> {
+    pub cosines: &'a [f64],
+    pub sines: &'a [f64],
 }
 
-// How many words follow the first two of a case.
-fn words_of(routine: u64, n: usize) -> usize
-    requires { n ≤ 256 }
-    ensures { result ≤ 2816 }
+// One entry of a table of which only every eighth is recorded, in the words from `from` on. The others are zero, and so is one whose word is missing.
+fn eighth_at(words: &[u64], from: usize, place: usize) -> f64
+    requires { from + place ≤ usize.MAX }
+    ensures { result ≡ eighth_at words.now from place }
 {
-    match routine {
-        0..=3 => 10 * n,
-        4..=9 => 2 * n,
-        10 => 9 * n,
-        11 => 11 * n,
-        12 => 5 * n,
-        _ => 7 * n,
+    if place % 8 == 0 {
+        float_of(words.get(from + place / 8).copied().unwrap_or(0))
+    } else {
+        floats::zero()
     }
 }
 
-// The length of the case at a place, which is no more than 256.
-pub fn length_at(bytes: &[u8], at: usize) -> usize
-    requires { at ≤ length bytes.now / 8 + 2048 }
-    ensures { result ≤ 256 }
+// The whole of such a table.
+fn load_table(words: &[u64], from: usize, table: &mut [f64])
+    requires whole { length table.old ≡ TURN }
+    requires from { from ≤ 1024 }
+    ensures { table.new ≡ eighths TURN words.now from }
 {
-    let n = word_at(bytes, at + 1);
-    if n <= 256 { n as usize } else { 256 }
+    for (place, entry) in table.iter_mut().enumerate() {
+        *entry = eighth_at(words, from, place);
+    }
 }
 
-// A routine and a length that are allowed stand at a place.
-fn starts(bytes: &[u8], at: usize) -> bool
-    requires { at ≤ length bytes.now / 8 + 2048 }
+// The two tables of a file.
+pub fn load_tables(words: &[u64], cosines: &mut [f64], sines: &mut [f64])
+    requires cosines { length cosines.old ≡ TURN }
+    requires sines { length sines.old ≡ TURN }
+    ensures cosines { cosines.new ≡ eighths TURN words.now 0 }
+    ensures sines { sines.new ≡ eighths TURN words.now 1024 }
 {
-    word_at(bytes, at) <= 13 && word_at(bytes, at + 1) <= 256
+    load_table(words, 0, cosines);
+    load_table(words, TABLES / 2, sines);
 }
 
-// The place after the case at a place, or the same place where no whole case stands there.
-pub fn after(bytes: &[u8], at: usize) -> usize
-    requires { at ≤ length bytes.now / 8 + 2048 }
-    ensures { (at ≤ result) × (result ≤ length bytes.now / 8 + 2048) }
-{
-    if !starts(bytes, at) {
-        return at;
-    }
-    let end = at + 2 + words_of(word_at(bytes, at), length_at(bytes, at));
-    if end <= bytes.len() / 8 { end } else { at }
+// One case: a call of a routine on n entries, and the words that record it.
+#[derive(Clone, Copy)]
+pub struct Case<'a> {
+    pub routine: Routine,
+    pub n: usize,
+    pub words: &'a [u64],
+    ghost short: { n ≤ 256 },
+    ghost whole: { length words.now ≡ words_of routine n },
 }
 
-// Only the last word stands at a place, and nothing after it.
-fn ends(bytes: &[u8], at: usize) -> bool
-    requires { at ≤ length bytes.now / 8 + 2048 }
+// The case that stands first, where a whole one does, and the words after it.
+fn first_case(words: &[u64]) -> Option<(Case<'_>, &[u64])>
+    ensures { IfSome result (λ p. words.now ≡ recorded p.0.routine p.0.n p.0.words.now ++ p.1.now) }
 {
-    if bytes.len() % 8 != 0 {
-        return false;
-    }
-    if at + 1 != bytes.len() / 8 {
-        return false;
-    }
-    word_at(bytes, at) == u64::MAX
+    let [number, length, rest @ ..] = words else {
+        return None;
+    };
+    let routine = Routine::try_from(*number).ok()?;
+    let n = usize::try_from(*length).ok().filter(|n| *n <= LONGEST)?;
+    let (words, after) = rest.split_at_checked(routine.words(n))?;
+    Some((Case { routine, n, words }, after))
 }
 
-// The file has whole cases, then the last word and nothing more.
-pub fn whole(bytes: &[u8]) -> bool {
-    let mut at = TABLES;
-    let mut next = after(bytes, at);
-    while at < next {
-        at = next;
-        next = after(bytes, at);
+// The whole cases at the front of words, one after the other.
+#[derive(Clone, Copy)]
+pub struct Cases<'a> {
+    pub words: &'a [u64],
+}
+
+impl<'a> Iterator for Cases<'a> {
+    type Item = Case<'a>;
+
+    ghost next_gives = { λ s r t. MatchOption r (t.words.now ≡ s.words.now) (λ case. s.words.now ≡ recorded case.routine case.n case.words.now ++ t.words.now) };
+
+    ghost remaining = { λ s. at_most (length s.words.now) };
+
+    fn next(&mut self) -> Option<Case<'a>> {
+        let (case, after) = first_case(self.words)?;
+        self.words = after;
+        Some(case)
     }
-    ends(bytes, at)
+}
+
+// Whole cases, then the last word and nothing more.
+pub fn whole(words: &[u64]) -> bool {
+    let mut cases = Cases { words };
+    for _ in &mut cases {}
+    matches!(cases.words, [u64::MAX])
 }

@@ -1,3 +1,1 @@
-pub mod Levels
-pub mod Parts
 pub mod Accepted

@@ -1,4 +1,3 @@
 pub mod Arithmetic
 pub mod Call
 pub mod Accepted
-pub mod Ready

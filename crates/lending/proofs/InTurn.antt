@@ -5,13 +5,12 @@ use mathlib.Core.Path.{◌≡◌, refl, sym, ◌∙◌, ap, ap₂}
 use Prim.Native.Nat.{ℕ, ◌^◌, ◌≤◌}
 use native.Mathlib.Omega.{arith}
 use lib.ListN.{length, drop, replicate, length-append, length-replicate}
-use Rattle.answers.specs.declared.Answer.TheVariants.{Done}
 use Rattle.answers.specs.Said.{Said, accepted, refused}
 use Rattle.ring.specs.Part.{cleared}
 use Rattle.sums.specs.Call.{Outcome, outcome, outcome_of, in_place_answer, in_place}
 use Rattle.sums.specs.Residue.{Residues}
 use Rattle.lending.specs.Accepted.{Accepted}
-use Rattle.lending.proofs.Accepted.{answered_accepted, accepted_answered}
+use Rattle.lending.proofs.Accepted.{in_place_accepted, accepted_answered}
 use Rattle.lending.proofs.Front.{cleared_again}
 
 -- at every allowed length the second after the first is `both`, and the first leaves as many entries, all residues
@@ -28,26 +27,28 @@ answer_is f n b s (refused number values) = refl
 zeros_length : (n : ℕ) → length {A = ℕ} (replicate n 0) ≡ n
 zeros_length n = length-replicate {A = ℕ} n 0
 
-module _ {first second both : List ℕ → List ℕ} (turns : InTurn first second both) (least n : ℕ) (b s : List ℕ) {said₁ : Said} {b₁ s₁ : List ℕ}
-    (there : outcome said₁ b₁ s₁ ≡ in_place least first n b s) where
-  answered : said₁ ≡ in_place_answer least n b (length s)
-  answered = ap (λ (o : Outcome ℕ). o.answer) there ∙ answer_is first n b s (in_place_answer least n b (length s))
+-- what was answered, of an outcome that is known
+answered : (f : List ℕ → List ℕ) (least n : ℕ) (b s : List ℕ) {said₁ : Said} {b₁ s₁ : List ℕ} → outcome said₁ b₁ s₁ ≡ in_place least f n b s
+    → said₁ ≡ in_place_answer least n b (length s)
+answered f least n b s there = ap (λ (o : Outcome ℕ). o.answer) there ∙ answer_is f n b s (in_place_answer least n b (length s))
 
+module _ {first second both : List ℕ → List ℕ} (turns : InTurn first second both) (least n : ℕ) (b s : List ℕ) {b₁ s₁ : List ℕ} where
   -- a refusal does not depend on the transform
-  pub turns_refused : (number : ℕ) (values : List ℕ) → said₁ ≡ refused number values → outcome said₁ b₁ s₁ ≡ in_place least both n b s
-  turns_refused number values told =
-      let asked : in_place_answer least n b (length s) ≡ refused number values = sym answered ∙ told in
+  pub turns_refused : (number : ℕ) (values : List ℕ) → outcome (refused number values) b₁ s₁ ≡ in_place least first n b s
+      → outcome (refused number values) b₁ s₁ ≡ in_place least both n b s
+  turns_refused number values there =
+      let asked = sym (answered first least n b s there) in
       there ∙ ap (outcome_of 0 first n b s) asked ∙ ap (outcome_of 0 both n b s) (sym asked)
 
-  module _ (done : said₁ ≡ accepted []) where
+  module _ (there : outcome (accepted []) b₁ s₁ ≡ in_place least first n b s) where
     asked : in_place_answer least n b (length s) ≡ accepted []
-    asked = sym answered ∙ done
+    asked = sym (answered first least n b s there)
 
-    left : outcome said₁ b₁ s₁ ≡ outcome (accepted []) (first b) (cleared 0 n s)
+    left : outcome (accepted []) b₁ s₁ ≡ outcome (accepted []) (first b) (cleared 0 n s)
     left = there ∙ ap (outcome_of 0 first n b s) asked
 
     passed : Accepted least n b (length s)
-    passed = answered_accepted least n b (length s) {answer = Done} (sym asked) refl
+    passed = in_place_accepted least n b (length s) (sym asked)
 
     -- what the first leaves is accepted again
     again : Accepted least n (first b) (length (cleared 0 n s))

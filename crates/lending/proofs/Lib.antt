@@ -2,8 +2,6 @@ pub mod Tests
 pub mod Sizes
 pub mod Lengths
 pub mod Bad
-pub mod Stores
 pub mod Accepted
 pub mod Front
-pub mod Beside
 pub mod InTurn

@@ -1,17 +1,15 @@
-// What a call over f64 asks of its size and of the lengths of what it is lent, before it changes any entry: document 01, "Sizes" and "Numbers for no", 1 and 2. And
-// the two stores that calls share: zeroing and copying. A test here answers and changes nothing, and looks at no entry.
+// What a call over f64 asks of its size and of the lengths of what it is lent, before it changes any entry: document 01, "Sizes" and "Numbers for no", 1 and 2. A
+// test here answers and changes nothing, and looks at no entry.
 #![tactic(auto)]
 
 ghost use Rattle.std.specs.Prelude.{◌≡◌, ◌≤◌, length};
 ghost use Rattle.answers.specs.Said.{says};
-ghost use Rattle.ring.specs.Part.{cleared, copied};
-ghost use Rattle.floats.specs.Arithmetic.{float_zero};
-ghost use Rattle.floats.specs.Call.{naive_size, even_size, tabled_fits, naive_answer, fast_answer, naive_block_answer, fast_block_answer};
+ghost use Rattle.floats.specs.Call.{naive_size, even_size, tabled_fits, naive_block_fits, fast_block_fits, naive_answer, fast_answer, naive_block_answer, fast_block_answer};
 
-use answers::{Answer, Refusal};
-use floats::zero;
+use answers::Refusal;
 
 // From 1 to 1024.
+#[tactic(auto, unfolding(floats::specs::Call::naive_size))]
 fn naive_size(n: usize) -> bool
     ensures { result ≡ naive_size n }
 {
@@ -23,10 +21,7 @@ fn naive_size(n: usize) -> bool
 fn even_size(n: usize) -> bool
     ensures { result ≡ even_size n }
 {
-    if n % 2 != 0 {
-        return false;
-    }
-    2 <= n && n <= 1024
+    n % 2 == 0 && 2 <= n && n <= 1024
 }
 
 // Both tables are as long as is wanted, the buffer has n entries and scratch no fewer.
@@ -41,26 +36,62 @@ fn tabled_fits(
 ) -> bool
     ensures { result ≡ tabled_fits wanted n cosines sines buffer scratch }
 {
-    if cosines != wanted {
-        return false;
-    }
-    if sines != wanted {
-        return false;
-    }
-    lending::lengths_fit(buffer, n, scratch, n)
+    cosines == wanted && sines == wanted && lending::lengths_fit(buffer, n, scratch, n)
+}
+
+// The lengths of a naive MDCT or IMDCT, and its table of 4n.
+#[tactic(auto, unfolding(floats::specs::Call::naive_block_fits))]
+fn naive_block_fits(
+    n: usize,
+    table: usize,
+    a: usize,
+    b: usize,
+    c: usize,
+    window: usize,
+    scratch: usize,
+) -> bool
+    requires { n ≤ 1024 }
+    ensures { result ≡ naive_block_fits n table a b c window scratch }
+{
+    table == 4 * n && lending::block_fits(0, n, a, b, c, window, scratch)
+}
+
+// The lengths of a fast one, and its two tables.
+#[tactic(auto, unfolding(floats::specs::Call::fast_block_fits))]
+fn fast_block_fits(
+    n: usize,
+    cosines: usize,
+    sines: usize,
+    a: usize,
+    b: usize,
+    c: usize,
+    window: usize,
+    scratch: usize,
+) -> bool
+    requires { n ≤ 1024 }
+    ensures { result ≡ fast_block_fits n cosines sines a b c window scratch }
+{
+    cosines == 8192 && sines == 8192 && lending::block_fits(2, n, a, b, c, window, scratch)
 }
 
 // What a naive transform in place answers before it stores anything.
-pub fn naive_answer(n: usize, cosines: usize, sines: usize, buffer: usize, scratch: usize) -> Answer
+#[tactic(auto, using(crate::proofs::Accepted::naive_small))]
+pub fn naive_answer(
+    n: usize,
+    cosines: usize,
+    sines: usize,
+    buffer: usize,
+    scratch: usize,
+) -> Result<(), Refusal>
     ensures { says result ≡ naive_answer n cosines sines buffer scratch }
 {
     if !naive_size(n) {
-        return Answer::No(Refusal::Size);
+        return Err(Refusal::Size);
     }
     if !tabled_fits(4 * n, n, cosines, sines, buffer, scratch) {
-        return Answer::No(Refusal::Length);
+        return Err(Refusal::Length);
     }
-    Answer::Done
+    Ok(())
 }
 
 // What a fast one answers; the allowed sizes begin with `least`.
@@ -71,19 +102,20 @@ pub fn fast_answer(
     sines: usize,
     buffer: usize,
     scratch: usize,
-) -> Answer
+) -> Result<(), Refusal>
     ensures { says result ≡ fast_answer least n cosines sines buffer scratch }
 {
     if !lending::allowed_size(least, n) {
-        return Answer::No(Refusal::Size);
+        return Err(Refusal::Size);
     }
     if !tabled_fits(8192, n, cosines, sines, buffer, scratch) {
-        return Answer::No(Refusal::Length);
+        return Err(Refusal::Length);
     }
-    Answer::Done
+    Ok(())
 }
 
 // What a naive MDCT or IMDCT answers.
+#[tactic(auto, using(crate::proofs::Accepted::even_small))]
 pub fn naive_block_answer(
     n: usize,
     table: usize,
@@ -92,22 +124,20 @@ pub fn naive_block_answer(
     c: usize,
     window: usize,
     scratch: usize,
-) -> Answer
+) -> Result<(), Refusal>
     ensures { says result ≡ naive_block_answer n table a b c window scratch }
 {
     if !even_size(n) {
-        return Answer::No(Refusal::Size);
+        return Err(Refusal::Size);
     }
-    if table != 4 * n {
-        return Answer::No(Refusal::Length);
+    if !naive_block_fits(n, table, a, b, c, window, scratch) {
+        return Err(Refusal::Length);
     }
-    if !lending::block_fits(0, n, a, b, c, window, scratch) {
-        return Answer::No(Refusal::Length);
-    }
-    Answer::Done
+    Ok(())
 }
 
 // What a fast MDCT or IMDCT answers.
+#[tactic(auto, using(lending::proofs::Sizes::size_small))]
 pub fn fast_block_answer(
     n: usize,
     cosines: usize,
@@ -117,41 +147,14 @@ pub fn fast_block_answer(
     c: usize,
     window: usize,
     scratch: usize,
-) -> Answer
+) -> Result<(), Refusal>
     ensures { says result ≡ fast_block_answer n cosines sines a b c window scratch }
 {
     if !lending::allowed_size(2, n) {
-        return Answer::No(Refusal::Size);
+        return Err(Refusal::Size);
     }
-    if cosines != 8192 {
-        return Answer::No(Refusal::Length);
+    if !fast_block_fits(n, cosines, sines, a, b, c, window, scratch) {
+        return Err(Refusal::Length);
     }
-    if sines != 8192 {
-        return Answer::No(Refusal::Length);
-    }
-    if !lending::block_fits(2, n, a, b, c, window, scratch) {
-        return Answer::No(Refusal::Length);
-    }
-    Answer::Done
-}
-
-// Zeroes the first n entries, as every accepted call does to the scratch that it needed.
-pub fn clear(s: &mut [f64], n: usize)
-    requires { n ≤ length s.old }
-    ensures { s.new ≡ cleared float_zero n s.old }
-{
-    let nought = zero();
-    for i in 0..n {
-        s[i] = nought;
-    }
-}
-
-// Copies all of `from` over the first entries of `to`.
-pub fn copy(from: &[f64], to: &mut [f64])
-    requires { length from.now ≤ length to.old }
-    ensures { to.new ≡ copied from.now to.old }
-{
-    for i in 0..from.len() {
-        to[i] = from[i];
-    }
+    Ok(())
 }

@@ -1,28 +1,24 @@
--- The tests of the searched slices, one by one: the third and the window (third_is), and what all of them say where they hold (searches). Assumes nothing.
+-- Several slices that are searched: one after the other (each_sound), and one more at the end (one_more). Assumes nothing.
 use mathlib.Core.Bool.{Bool, true, false, ◌&&◌}
-use mathlib.Core.List.{List, [], ◌∷◌}
-use mathlib.Core.Path.{◌≡◌, refl, ap, subst}
+use mathlib.Core.List.{List, [], ◌∷◌, ◌++◌, map}
+use mathlib.Core.Path.{◌≡◌, refl, sym, ◌∙◌, ap}
 use Prim.Native.Nat.{ℕ}
-use lib.Dec.{T}
+use Rattle.std.specs.List.{list_all}
 use Rattle.sums.specs.Bad.{sound_entries, sound_slices}
-use Rattle.lending.proofs.Tests.{all_four, sound_one}
-use Rattle.mdct_answers.specs.Searched.{third_searched, block_searched}
 
--- whether the third slice may stay as it is
-abbrev pub third_sound : Bool → List ℕ → Bool
-third_sound added c = sound_slices (third_searched added c [])
+pub each_sound : {A : Type 0} (entries : A → List ℕ) (slices : List A) → list_all (λ slice. sound_entries (entries slice)) slices ≡ sound_slices (map entries slices)
+each_sound entries [] = refl
+each_sound entries (slice ∷ rest) = ap (λ (b : Bool). sound_entries (entries slice) && b) (each_sound entries rest)
 
-pub third_is : (added : Bool) (c w : List ℕ) → sound_slices (third_searched added c (w ∷ [])) ≡ (third_sound added c && sound_entries w)
-third_is true c w = joined (sound_entries c) (sound_entries w)
-  where
-    joined : (x y : Bool) → (x && (y && true)) ≡ ((x && true) && y)
-    joined true true = refl
-    joined true false = refl
-    joined false y = refl
-third_is false c w = sound_one w
+grouped : (a b c : Bool) → ((a && b) && c) ≡ (a && (b && c))
+grouped true b c = refl
+grouped false b c = refl
 
-pub searches : (added : Bool) (a b c w : List ℕ) → T (sound_slices (block_searched added a b c w))
-    → T (sound_entries a) × T (sound_entries b) × T (third_sound added c) × T (sound_entries w)
-searches added a b c w t =
-    all_four (sound_entries a) (sound_entries b) (third_sound added c) (sound_entries w)
-    (subst T (ap (λ (x : Bool). sound_entries a && (sound_entries b && x)) (third_is added c w)) t)
+last : (a : Bool) → (a && true) ≡ a
+last true = refl
+last false = refl
+
+pub one_more : (slices : List (List ℕ)) (slice : List ℕ) → sound_slices (slices ++ (slice ∷ [])) ≡ (sound_slices slices && sound_entries slice)
+one_more [] slice = last (sound_entries slice)
+one_more (first ∷ rest) slice =
+    ap (λ (b : Bool). sound_entries first && b) (one_more rest slice) ∙ sym (grouped (sound_entries first) (sound_slices rest) (sound_entries slice))

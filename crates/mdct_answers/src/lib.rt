@@ -2,64 +2,50 @@
 // Both are lent three slices of n entries, a window of 2n, and scratch of `parts` times n: no part for the naive sums, two for the fast way.
 #![tactic(auto)]
 
-ghost use Rattle.std.specs.Prelude.{◌≡◌, [], ◌≤◌};
+ghost use Rattle.std.specs.Prelude.{◌≡◌, [], ◌∷◌, ◌++◌, ◌≤◌, map};
 ghost use Rattle.answers.specs.Said.{says};
-ghost use Rattle.sums.specs.Call.{mdct_answer, imdct_answer};
+ghost use Rattle.sums.specs.Call.{transform_answer, block_lengths, mdct_answer, imdct_answer};
 ghost use Rattle.sums.specs.Bad.{sound_slices};
-ghost use Rattle.mdct_answers.specs.Searched.{third_searched, block_searched, block_answer};
+ghost use Rattle.sums.specs.Size.{allowed_size};
+ghost use Rattle.sums.specs.Window.{accepted_window};
 
-use answers::{Answer, Refusal};
+use answers::Refusal;
 
-// A slice that is overwritten may hold anything; one that is added to must hold residues.
-fn third_sound(added: bool, entries: &[u32]) -> bool
-    ensures { result ≡ sound_slices (third_searched added entries.now []) }
+// Whether each of several slices holds residues only.
+fn sound_slices(slices: &[&[u32]]) -> bool
+    ensures { result ≡ sound_slices (map (λ x. x.now) slices.now) }
 {
-    if added { lending::sound(entries) } else { true }
+    slices.iter().all(|entries| lending::sound(entries))
 }
 
-// Whether every entry that is read or added to is a residue.
-fn block_sound(added: bool, a: &[u32], b: &[u32], c: &[u32], window: &[u32]) -> bool
-    ensures { result ≡ sound_slices (block_searched added a.now b.now c.now window.now) }
-{
-    if !lending::sound(a) {
-        return false;
-    }
-    if !lending::sound(b) {
-        return false;
-    }
-    if !third_sound(added, c) {
-        return false;
-    }
-    lending::sound(window)
-}
-
-// All four tests.
+// All four tests. What is searched for bad residues, beside the window, are the slices that are read or added to; one that is overwritten may hold anything.
+#[tactic(auto, using(crate::proofs::Searched::one_more, lending::proofs::Sizes::size_small))]
 fn block_answer(
-    added: bool,
     parts: usize,
     n: usize,
     a: &[u32],
     b: &[u32],
     c: &[u32],
+    searched: &[&[u32]],
     window: &[u32],
     scratch: usize,
-) -> Answer
+) -> Result<(), Refusal>
     requires { parts ≤ 2 }
-    ensures { says result ≡ block_answer added parts n a.now b.now c.now window.now scratch }
+    ensures { says result ≡ transform_answer (allowed_size 2 n) (block_lengths parts n a.now b.now c.now window.now scratch) (map (λ x. x.now) searched.now ++ (window.now ∷ [])) (accepted_window n window.now) }
 {
     if !lending::allowed_size(2, n) {
-        return Answer::No(Refusal::Size);
+        return Err(Refusal::Size);
     }
     if !lending::block_fits(parts, n, a.len(), b.len(), c.len(), window.len(), scratch) {
-        return Answer::No(Refusal::Length);
+        return Err(Refusal::Length);
     }
-    if !block_sound(added, a, b, c, window) {
-        return Answer::No(Refusal::Residue);
+    if !sound_slices(searched) || !lending::sound(window) {
+        return Err(Refusal::Residue);
     }
     if !window_residue::accepted(window, n) {
-        return Answer::No(Refusal::Window);
+        return Err(Refusal::Window);
     }
-    Answer::Done
+    Ok(())
 }
 
 // An MDCT reads two segments and the window, and overwrites its output.
@@ -71,11 +57,20 @@ pub fn mdct_answer(
     output: &[u32],
     window: &[u32],
     scratch: usize,
-) -> Answer
+) -> Result<(), Refusal>
     requires { parts ≤ 2 }
     ensures { says result ≡ mdct_answer parts n first.now second.now output.now window.now scratch }
 {
-    block_answer(false, parts, n, first, second, output, window, scratch)
+    block_answer(
+        parts,
+        n,
+        first,
+        second,
+        output,
+        &[first, second],
+        window,
+        scratch,
+    )
 }
 
 // An IMDCT reads its input and the window, and adds to both outputs.
@@ -87,9 +82,18 @@ pub fn imdct_answer(
     second: &[u32],
     window: &[u32],
     scratch: usize,
-) -> Answer
+) -> Result<(), Refusal>
     requires { parts ≤ 2 }
     ensures { says result ≡ imdct_answer parts n input.now first.now second.now window.now scratch }
 {
-    block_answer(true, parts, n, input, first, second, window, scratch)
+    block_answer(
+        parts,
+        n,
+        input,
+        first,
+        second,
+        &[input, first, second],
+        window,
+        scratch,
+    )
 }

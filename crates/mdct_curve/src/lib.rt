@@ -1,135 +1,101 @@
-// Overlapped blocks, there and back: the MDCTs of neighbouring segments of a curve, with a segment of zeros before the first and after the
-// last, and the IMDCTs of all of these added up, which should be the curve. What is done with one block is in `block`.
+// Overlapped blocks, there and back: the MDCTs of neighbouring segments of a curve, with a segment of zeros before the first and after the last, and the IMDCTs of all of these
+// added up, which should be the curve.
 #![tactic(auto)]
 
 ghost use Rattle.std.specs.Prelude.{◌≡◌, ◌*◌, ◌≤◌, length};
+ghost use Rattle.arrayvec.specs.ArrayVec.{array_vec_len};
 
-use crate::block::advance;
-use counting::count::Tally;
-use counting::{count, entries};
-use mdct_lent::case;
-use mdct_lent::lent::lend_window;
+use arrayvec::ArrayVec;
+use counting::count::{Count, Tally};
+use counting::entries;
+use counting::entries::ROOM;
+use mdct_lent::call::{Call, Transform, Way};
+use mdct_lent::case::{Case, Shape};
+use mdct_lent::lent;
+use mdct_lent::lent::{Block, Lent, copied};
 
-mod block;
+// Six segments of the largest size.
+const LONGEST: usize = 6144;
 
-// All blocks of a curve that has its segments of zeros.
-fn blocks(
-    mdct: usize,
-    imdct: usize,
-    n: usize,
-    curve: &[u32],
-    following: &mut [u32],
-    read: &mut [u32],
-    before: &mut [u32],
-    coefficients: &mut [u32],
-    sum: &mut [u32],
-    next: &mut [u32],
-    scratch: &mut [u32],
-) -> Tally
-    requires { (1 ≤ n) × (n ≤ 1024) × (length curve.now ≤ 6144) × (length following.old ≡ n) × (n ≤ length read.old) × (length read.old ≡ length before.old) × (length coefficients.old ≡ n) × (length sum.old ≡ n) × (length next.old ≡ n) }
-{
-    let mut tally = count::nothing();
-    let mut from = 0;
-    while from + 2 * n <= curve.len() {
-        let middle = from + n;
-        let end = middle + n;
-        let done = advance(
-            mdct,
-            imdct,
-            from == 0,
-            &curve[from..middle],
-            &curve[middle..end],
-            following,
-            read,
-            before,
-            coefficients,
-            sum,
-            next,
-            scratch,
-        );
-        tally = count::together(tally, done);
-        from = middle;
+// By which calls, under which window and in blocks of which size.
+#[derive(Clone, Copy, Debug)]
+pub struct Curve {
+    pub way: Way,
+    pub shape: Shape,
+    pub n: usize,
+    ghost allowed: { (1 ≤ n) × (n ≤ 1024) },
+}
+
+impl Curve {
+    // Four segments of residues as if by chance, between two of zeros.
+    fn samples(&self) -> ArrayVec<u32, LONGEST>
+        ensures { array_vec_len result ≡ 6 * self.now.n }
+    {
+        let mut samples = ArrayVec::from_array_in((), [0; LONGEST]);
+        samples.truncate(6 * self.n);
+        entries::fill(51, &mut samples[self.n..5 * self.n]);
+        samples
     }
-    tally
-}
 
-// Four segments of residues as if by chance, where there are six.
-fn segments(n: usize, curve: &mut [u32])
-    requires { (n ≤ 1024) × (length curve.old ≡ 6 * n) }
-{
-    let last = 5 * n;
-    entries::fill(51, &mut curve[n..last]);
-}
+    fn call(&self, transform: Transform) -> Call {
+        Call {
+            transform,
+            way: self.way,
+        }
+    }
 
-// A window after the first n entries.
-fn window_after(sine: bool, n: usize, read: &mut [u32])
-    requires { (n ≤ 1024) × (length read.old ≡ 3 * n) }
-{
-    let mut case = case::right(n);
-    case.sine = sine;
-    let all = 3 * n;
-    lend_window(case, &mut read[n..all]);
-}
+    // Three slices, with the window and scratch that go with them.
+    fn lend(&self, first: Lent, second: Lent, third: Lent) -> Block {
+        let case = Case {
+            shape: self.shape,
+            ..Case::of_size(self.n)
+        };
+        Block {
+            first,
+            second,
+            third,
+            window: lent::window(&case),
+            scratch: entries::zeros(case.scratch.entries),
+        }
+    }
 
-// All blocks of such a curve under such a window.
-fn blocks_of(
-    way: usize,
-    sine: bool,
-    n: usize,
-    curve: &mut [u32],
-    following: &mut [u32],
-    read: &mut [u32],
-    before: &mut [u32],
-    coefficients: &mut [u32],
-    sum: &mut [u32],
-    next: &mut [u32],
-    scratch: &mut [u32],
-) -> Tally
-    requires { (way ≤ 1) × (1 ≤ n) × (n ≤ 1024) × (length curve.old ≡ 6 * n) × (length following.old ≡ n) × (length read.old ≡ 3 * n) × (length read.old ≡ length before.old) × (length coefficients.old ≡ n) × (length sum.old ≡ n) × (length next.old ≡ n) }
-{
-    segments(n, curve);
-    window_after(sine, n, read);
-    blocks(
-        way,
-        2 + way,
-        n,
-        curve,
-        following,
-        read,
-        before,
-        coefficients,
-        sum,
-        next,
-        scratch,
-    )
-}
+    // The MDCT of a segment and the one after it, and the IMDCT of that. It adds to what the block before left, which then should be the segment, and to zeros, which it leaves
+    // to the next block.
+    fn block(&self, segment: Lent, after: &[u32]) -> (Tally, Lent)
+        requires { length after.now ≤ ROOM }
+    {
+        let first = Lent::kept(copied(&segment.right));
+        let second = Lent::kept(copied(after));
+        // No residues: MDCT overwrites its output.
+        let mut output = entries::zeros(self.n);
+        output.fill(u32::MAX);
+        let mut there = self.lend(first, second, Lent::kept(output));
+        let mdct = there.call(self.call(Transform::Mdct), self.n, Ok(()));
+        let output = there.third;
+        let coefficients = Lent::kept(output.entries);
+        let next = Lent::zeros(copied(after));
+        let mut back = self.lend(coefficients, segment, next);
+        let imdct = back.call(self.call(Transform::Imdct), self.n, Ok(()));
+        let tally = (mdct + imdct).with_outputs(back.second.count());
+        (tally, back.third)
+    }
 
-// A curve for a size.
-pub fn there_and_back(way: usize, sine: bool, n: usize) -> Tally
-    requires { (way ≤ 1) × (1 ≤ n) × (n ≤ 1024) }
-{
-    let mut curve = [0u32; 6144];
-    let mut following = [0u32; 1024];
-    let mut read = [0u32; 3072];
-    let mut before = [0u32; 3072];
-    let mut coefficients = [0u32; 1024];
-    let mut sum = [0u32; 1024];
-    let mut next = [0u32; 1024];
-    let mut scratch = [0u32; 2048];
-    let twice = 2 * n;
-    let all = 3 * n;
-    let padded = 6 * n;
-    blocks_of(
-        way,
-        sine,
-        n,
-        &mut curve[0..padded],
-        &mut following[0..n],
-        &mut read[0..all],
-        &mut before[0..all],
-        &mut coefficients[0..n],
-        &mut sum[0..n],
-        &mut next[0..n],
-        &mut scratch[0..twice],
-    )
+    // All blocks.
+    pub fn there_and_back(&self) -> Tally {
+        let samples = self.samples();
+        let (before, curve) = samples.split_at(self.n);
+        let mut segment = Lent::zeros(copied(before));
+        let mut sum = Tally::default();
+        for (place, after) in curve.chunks_exact(self.n).enumerate() {
+            let (tally, next) = self.block(segment, after);
+            // The zeros before the curve are none of its samples.
+            sum += if place == 0 {
+                tally.with_outputs(Count::default())
+            } else {
+                tally
+            };
+            segment = next;
+        }
+        sum
+    }
 }

@@ -1,14 +1,16 @@
 // The four calls. Each promises, for every input, its answer and what every lent slice then holds, by one definition of its own.
+// C lends the two tables side by side. So do these, which test both lengths first; an accepted call makes `Tables` of them.
 ghost use Rattle.std.specs.Prelude.{◌≡◌};
 ghost use Rattle.answers.specs.Said.{says};
 ghost use Rattle.sums.specs.Call.{outcome, spread};
 ghost use Rattle.floats.specs.Call.{mdct_naive_call, mdct_fast_call, imdct_naive_call, imdct_fast_call};
 
-use answers::Answer;
+use crate::{fast, naive};
+use answers::Refusal;
 use lending_float::{fast_block_answer, naive_block_answer};
-use mdct_naive_float::mdct_naive;
 
 // MDCT term by term. It overwrites its output.
+#[tactic(auto, using(lending_float::proofs::Accepted::naive_block))]
 pub fn mdct_naive(
     n: usize,
     table: &[f64],
@@ -17,10 +19,10 @@ pub fn mdct_naive(
     output: &mut [f64],
     window: &[f64],
     scratch: &mut [f64],
-) -> Answer
+) -> Result<(), Refusal>
     ensures { outcome (says result) output.new scratch.new ≡ mdct_naive_call n table.now first.now second.now output.old window.now scratch.old }
 {
-    let answer = naive_block_answer(
+    naive_block_answer(
         n,
         table.len(),
         first.len(),
@@ -28,14 +30,13 @@ pub fn mdct_naive(
         output.len(),
         window.len(),
         scratch.len(),
-    );
-    if let Answer::Done = answer {
-        mdct_naive::mdct(n, table, first, second, output, window);
-    }
-    answer
+    )?;
+    naive::mdct(n, table, first, second, output, window);
+    Ok(())
 }
 
 // IMDCT term by term. It adds to both outputs.
+#[tactic(auto, using(lending_float::proofs::Accepted::naive_block))]
 pub fn imdct_naive(
     n: usize,
     table: &[f64],
@@ -44,10 +45,10 @@ pub fn imdct_naive(
     second: &mut [f64],
     window: &[f64],
     scratch: &mut [f64],
-) -> Answer
+) -> Result<(), Refusal>
     ensures { spread (says result) first.new second.new scratch.new ≡ imdct_naive_call n table.now input.now first.old second.old window.now scratch.old }
 {
-    let answer = naive_block_answer(
+    naive_block_answer(
         n,
         table.len(),
         input.len(),
@@ -55,14 +56,13 @@ pub fn imdct_naive(
         second.len(),
         window.len(),
         scratch.len(),
-    );
-    if let Answer::Done = answer {
-        mdct_naive::imdct(n, table, input, first, second, window);
-    }
-    answer
+    )?;
+    naive::imdct(n, table, input, first, second, window);
+    Ok(())
 }
 
 // MDCT by way of DCT-IV. It overwrites its output.
+#[tactic(auto, using(lending_float::proofs::Accepted::fast_block))]
 pub fn mdct_fast(
     n: usize,
     cosines: &[f64],
@@ -72,10 +72,10 @@ pub fn mdct_fast(
     output: &mut [f64],
     window: &[f64],
     scratch: &mut [f64],
-) -> Answer
+) -> Result<(), Refusal>
     ensures { outcome (says result) output.new scratch.new ≡ mdct_fast_call n cosines.now sines.now first.now second.now output.old window.now scratch.old }
 {
-    let answer = fast_block_answer(
+    fast_block_answer(
         n,
         cosines.len(),
         sines.len(),
@@ -84,14 +84,13 @@ pub fn mdct_fast(
         output.len(),
         window.len(),
         scratch.len(),
-    );
-    if let Answer::Done = answer {
-        mdct_fast_float::mdct(n, cosines, sines, first, second, output, window, scratch);
-    }
-    answer
+    )?;
+    fast::mdct(n, cosines, sines, first, second, output, window, scratch);
+    Ok(())
 }
 
 // IMDCT by way of DCT-IV. It adds to both outputs.
+#[tactic(auto, using(lending_float::proofs::Accepted::fast_block))]
 pub fn imdct_fast(
     n: usize,
     cosines: &[f64],
@@ -101,10 +100,10 @@ pub fn imdct_fast(
     second: &mut [f64],
     window: &[f64],
     scratch: &mut [f64],
-) -> Answer
+) -> Result<(), Refusal>
     ensures { spread (says result) first.new second.new scratch.new ≡ imdct_fast_call n cosines.now sines.now input.now first.old second.old window.now scratch.old }
 {
-    let answer = fast_block_answer(
+    fast_block_answer(
         n,
         cosines.len(),
         sines.len(),
@@ -113,9 +112,7 @@ pub fn imdct_fast(
         second.len(),
         window.len(),
         scratch.len(),
-    );
-    if let Answer::Done = answer {
-        mdct_fast_float::imdct(n, cosines, sines, input, first, second, window, scratch);
-    }
-    answer
+    )?;
+    fast::imdct(n, cosines, sines, input, first, second, window, scratch);
+    Ok(())
 }

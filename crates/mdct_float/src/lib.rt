@@ -5,3 +5,5 @@
 #![tactic(auto)]
 
 pub mod calls;
+mod fast;
+mod naive;

@@ -1,4 +1,5 @@
-// What is lent to the calls of windows, MDCT and IMDCT where a program runs them (`case`, `lent`), and one such call with what it should answer and leave (`call`).
+// What is lent to the calls of windows, MDCT and IMDCT where a program runs them: which calls there are (`call`), what a case says of them (`case`), and what they are lent and
+// should leave (`lent`).
 #![tactic(auto)]
 
 pub mod call;

@@ -1,1 +1,3 @@
 pub mod Unneeded
+pub mod Accepted
+pub mod OddCosines

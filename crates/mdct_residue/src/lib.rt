@@ -4,3 +4,5 @@
 #![tactic(auto)]
 
 pub mod calls;
+mod fast;
+mod naive;

@@ -1,111 +1,102 @@
-// One entry that is p, 4294967295 or p - 1. A line is named by its test: the entry's place, its slice, its value, and the calls where they are not all.
-use crate::test::Test;
-use crate::{line, test};
+// One entry that is p, 4294967295 or p - 1, at every N.
+use crate::lines;
+use answers::Refusal;
+use counting::cases::{Place, Value, at_every_size};
+use counting::lines::Unchanged;
+use mdct_lent::call::Calls;
+use mdct_lent::case::{Case, Slice};
+use mdct_tests::accept::accepted;
+use mdct_tests::refuse::refused;
+use mdct_tests::windows;
 use std::io;
-use std::io::Print;
 
-const P: u32 = 998244353;
-
-fn place(rt: &impl Print, at: usize) -> io::Result<()> {
-    match at {
-        0 => print::text(rt, b"The first"),
-        1 => print::text(rt, b"A middle one"),
-        _ => print::text(rt, b"The last"),
-    }
-}
-
-fn slice(rt: &impl Print, number: usize) -> io::Result<()> {
-    match number {
-        1 => print::text(rt, b" of the first slice"),
-        2 => print::text(rt, b" of the second slice"),
-        3 => print::text(rt, b" of the third slice"),
-        _ => print::text(rt, b" of the window"),
-    }
-}
-
-fn value(rt: &impl Print, entry: u32) -> io::Result<()> {
-    match entry {
-        998244353 => print::text(rt, b" is p"),
-        998244352 => print::text(rt, b" is p - 1"),
-        _ => print::text(rt, b" is 4294967295"),
-    }
-}
-
-fn calls(rt: &impl Print, which: usize) -> io::Result<()> {
-    match which {
-        2 => print::text(rt, b", MDCT: "),
-        3 => print::text(rt, b", IMDCT: "),
-        _ => print::text(rt, b": "),
-    }
-}
-
-fn name(rt: &impl Print, test: Test) -> io::Result<()> {
-    place(rt, test.at)?;
-    slice(rt, test.slice)?;
-    value(rt, test.value)?;
-    calls(rt, test.calls)
-}
-
-fn test_of(at: usize, slice: usize, value: u32, calls: usize, number: u32) -> Test {
-    let mut test = test::nothing_wrong();
-    test.slice = slice;
-    test.at = at;
-    test.value = value;
-    test.calls = calls;
-    test.number = number;
-    test
-}
-
-// The calls of MDCT and IMDCT, which are accepted where they should answer 0.
+// The calls of MDCT and IMDCT, which are accepted, or else refused for a reason.
 fn entry(
     rt: &impl Print,
-    at: usize,
-    slice: usize,
-    value: u32,
-    calls: usize,
-    number: u32,
+    place: Place,
+    slice: Slice,
+    value: Value,
+    calls: Calls,
+    right: Result<(), Refusal>,
 ) -> io::Result<()> {
-    let test = test_of(at, slice, value, calls, number);
-    let kind = if number == 0 { 1 } else { 0 };
-    name(rt, test)?;
-    line::every(rt, kind, test)
+    print!(rt; "{place} of the {slice} is {value}{calls}: ")?;
+    let case_of = |n| Case {
+        calls,
+        ..Case::of_entry(place, slice, value, n)
+    };
+    match right {
+        Ok(()) => {
+            let tally = at_every_size(2, |n| accepted(0, case_of(n)));
+            println!(rt; "{}", lines::agreed(tally))
+        }
+        Err(reason) => {
+            let tally = at_every_size(2, |n| refused(case_of(n), reason));
+            println!(rt; "{}", Unchanged { tally, right })
+        }
+    }
 }
 
 // The test of a window.
 fn window_entry(
     rt: &impl Print,
-    what: &[u8],
-    at: usize,
-    value: u32,
-    number: u32,
+    what: &str,
+    place: Place,
+    value: Value,
+    reason: Refusal,
 ) -> io::Result<()> {
-    print::text(rt, what)?;
-    line::every(rt, 2, test_of(at, 4, value, 0, number))
+    let right = Err(reason);
+    let tally = at_every_size(2, |n| {
+        windows::tested(Case::of_entry(place, Slice::Window, value, n), right)
+    });
+    println!(rt; "Test of a window, {what}: {}", Unchanged { tally, right })
 }
 
 pub fn all(rt: &impl Print) -> io::Result<()> {
-    print::text(rt, b"One entry, at every N.\n")?;
-    entry(rt, 0, 1, P, 0, 3)?;
-    entry(rt, 1, 2, P, 0, 3)?;
-    entry(rt, 2, 3, P, 3, 3)?;
-    entry(rt, 2, 3, P, 2, 0)?;
-    entry(rt, 2, 4, P, 0, 3)?;
-    entry(rt, 2, 1, u32::MAX, 0, 3)?;
-    entry(rt, 0, 2, u32::MAX, 0, 3)?;
-    entry(rt, 1, 3, u32::MAX, 3, 3)?;
-    entry(rt, 1, 3, u32::MAX, 2, 0)?;
-    entry(rt, 1, 4, u32::MAX, 0, 3)?;
-    entry(rt, 2, 1, P - 1, 0, 0)?;
-    entry(rt, 1, 2, P - 1, 0, 0)?;
-    entry(rt, 0, 3, P - 1, 0, 0)?;
-    entry(rt, 0, 4, P - 1, 0, 4)?;
-    window_entry(rt, b"Test of a window, the first is p: ", 0, P, 3)?;
-    window_entry(rt, b"Test of a window, the last is p: ", 2, P, 3)?;
-    window_entry(
-        rt,
-        b"Test of a window, a middle one is p - 1: ",
-        1,
-        P - 1,
-        4,
-    )
+    use Place::{First, Last, Middle};
+    use Value::{LargestNumber, LargestResidue, Modulus};
+    let no_residue = Err(Refusal::Residue);
+    println!(rt; "One entry, at every N.")?;
+    for (place, slice, value, calls, right) in [
+        (First, Slice::First, Modulus, Calls::All, no_residue),
+        (Middle, Slice::Second, Modulus, Calls::All, no_residue),
+        (Last, Slice::Third, Modulus, Calls::Imdct, no_residue),
+        (Last, Slice::Third, Modulus, Calls::Mdct, Ok(())),
+        (Last, Slice::Window, Modulus, Calls::All, no_residue),
+        (Last, Slice::First, LargestNumber, Calls::All, no_residue),
+        (First, Slice::Second, LargestNumber, Calls::All, no_residue),
+        (
+            Middle,
+            Slice::Third,
+            LargestNumber,
+            Calls::Imdct,
+            no_residue,
+        ),
+        (Middle, Slice::Third, LargestNumber, Calls::Mdct, Ok(())),
+        (Middle, Slice::Window, LargestNumber, Calls::All, no_residue),
+        (Last, Slice::First, LargestResidue, Calls::All, Ok(())),
+        (Middle, Slice::Second, LargestResidue, Calls::All, Ok(())),
+        (First, Slice::Third, LargestResidue, Calls::All, Ok(())),
+        (
+            First,
+            Slice::Window,
+            LargestResidue,
+            Calls::All,
+            Err(Refusal::Window),
+        ),
+    ] {
+        entry(rt, place, slice, value, calls, right)?;
+    }
+    for (what, place, value, reason) in [
+        ("the first is p", First, Modulus, Refusal::Residue),
+        ("the last is p", Last, Modulus, Refusal::Residue),
+        (
+            "a middle one is p - 1",
+            Middle,
+            LargestResidue,
+            Refusal::Window,
+        ),
+    ] {
+        window_entry(rt, what, place, value, reason)?;
+    }
+    Ok(())
 }

@@ -1,73 +1,48 @@
-// Sizes that are not allowed, and wrong lengths of what is lent.
-ghost use Rattle.std.specs.Prelude.{◌≤◌};
+// Wrong lengths of what is lent, at every N.
+ghost use Rattle.std.specs.Prelude.{ℕ, ◌≤◌};
 
-use crate::{line, test};
-use counting::count;
-use mdct_lent::case;
-use mdct_tests::refuse::refuse;
+use answers::Refusal;
+use counting::cases::at_every_size;
+use counting::count::Tally;
+use counting::lines::Unchanged;
+use mdct_lent::case::{Case, Slice, Wrong};
+use mdct_tests::refuse::refused;
 use mdct_tests::windows;
 use std::io;
-use std::io::Print;
 
-// A size that is not allowed, of all seven calls. All else is in order where slices can be so long.
-fn size(rt: &impl Print, n: usize, fits: usize) -> io::Result<()>
-    requires { fits ≤ 2048 }
+// The end of a line.
+fn counted<F: Fn(usize) -> Tally>(rt: &impl Print, test: F) -> io::Result<()>
+    requires { (n : ℕ) → 2 ≤ n → n ≤ 1024 → F.pre test n }
 {
-    let mut case = case::right(fits);
-    case.n = n;
-    case.number = 1;
-    print::size(rt, n)?;
-    print::refused(
-        rt,
-        count::together(refuse(case), windows::refuse(n, 1, 2 * fits)),
-        1,
-    )
+    let tally = at_every_size(2, test);
+    let right = Err(Refusal::Length);
+    println!(rt; ": {}", Unchanged { tally, right })
 }
 
-pub fn sizes(rt: &impl Print) -> io::Result<()> {
-    print::text(
-        rt,
-        b"Sizes: MDCT and IMDCT, naive and fast, and the three calls of windows.\n",
-    )?;
-    size(rt, 0, 0)?;
-    size(rt, 1, 1)?;
-    size(rt, 3, 3)?;
-    size(rt, 1023, 1023)?;
-    size(rt, 1025, 1025)?;
-    size(rt, 2048, 2048)?;
-    size(rt, usize::MAX, 2048)
-}
-
-// A wrong length.
-fn length(rt: &impl Print, what: &[u8], length: usize, calls: usize) -> io::Result<()> {
-    let mut test = test::nothing_wrong();
-    test.length = length;
-    test.calls = calls;
-    test.number = 2;
-    print::text(rt, what)?;
-    line::every(rt, 0, test)
-}
-
-// Of windows alone.
-fn window_length(rt: &impl Print, what: &[u8], kind: usize) -> io::Result<()> {
-    print::text(rt, what)?;
-    print::refused(rt, windows::wrong_lengths(kind), 2)
-}
-
-pub fn lengths(rt: &impl Print) -> io::Result<()> {
-    print::text(rt, b"Lengths, at every N.\n")?;
-    length(rt, b"The first slice one short: ", 1, 0)?;
-    length(rt, b"The first slice one long: ", 2, 0)?;
-    length(rt, b"The second slice one short: ", 3, 0)?;
-    length(rt, b"The second slice one long: ", 4, 0)?;
-    length(rt, b"The third slice one short: ", 5, 0)?;
-    length(rt, b"The third slice one long: ", 6, 0)?;
-    length(rt, b"The window one short: ", 7, 0)?;
-    length(rt, b"The window one long: ", 8, 0)?;
-    length(rt, b"The window empty: ", 9, 0)?;
-    length(rt, b"Scratch one short, fast: ", 10, 1)?;
-    length(rt, b"Scratch empty, fast: ", 11, 1)?;
-    window_length(rt, b"Calls of windows, one short: ", 0)?;
-    window_length(rt, b"Calls of windows, one long: ", 1)?;
-    window_length(rt, b"Calls of windows, empty: ", 2)
+pub fn all(rt: &impl Print) -> io::Result<()> {
+    let reason = Refusal::Length;
+    println!(rt; "Lengths, at every N.")?;
+    for (slice, wrong) in [
+        (Slice::First, Wrong::OneShort),
+        (Slice::First, Wrong::OneLong),
+        (Slice::Second, Wrong::OneShort),
+        (Slice::Second, Wrong::OneLong),
+        (Slice::Third, Wrong::OneShort),
+        (Slice::Third, Wrong::OneLong),
+        (Slice::Window, Wrong::OneShort),
+        (Slice::Window, Wrong::OneLong),
+        (Slice::Window, Wrong::Empty),
+    ] {
+        print!(rt; "The {slice} {wrong}")?;
+        counted(rt, |n| refused(Case::of_length(slice, wrong, n), reason))?;
+    }
+    for wrong in [Wrong::OneShort, Wrong::Empty] {
+        print!(rt; "Scratch {wrong}, fast")?;
+        counted(rt, |n| refused(Case::of_scratch(wrong, n), reason))?;
+    }
+    for wrong in Wrong::ALL {
+        print!(rt; "Calls of windows, {wrong}")?;
+        counted(rt, |n| windows::refused(n, wrong.length(2 * n), reason))?;
+    }
+    Ok(())
 }

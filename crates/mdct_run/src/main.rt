@@ -1,5 +1,5 @@
-// Runs the public calls of windows, MDCT and IMDCT over residues as document 01 asks ("All else is run by a program") and prints what was
-// counted. No count is known beforehand: each comes from a call's answer or from a comparison of entries.
+// Runs the public calls of windows, MDCT and IMDCT over residues as document 01 asks ("All else is run by a program") and prints what was counted. No count is known beforehand:
+// each comes from a call's answer or from a comparison of entries.
 #![tactic(auto)]
 
 use std::io;
@@ -7,20 +7,19 @@ use std::io;
 mod accept;
 mod entries;
 mod lengths;
-mod line;
+mod lines;
 mod order;
-mod test;
+mod sizes;
 mod windows;
 
 fn main(rt: HostRuntime) -> io::Result<()> {
-    print::text(
-        &rt,
-        b"MDCT and IMDCT over residues, each naive and fast: four calls. N = 2, 4, 8, .., 1024.\n",
+    println!(rt;
+        "MDCT and IMDCT over residues, each naive and fast: four calls. N = 2, 4, 8, .., 1024."
     )?;
     accept::agreement(&rt)?;
     accept::curves(&rt)?;
-    lengths::sizes(&rt)?;
-    lengths::lengths(&rt)?;
+    sizes::all(&rt)?;
+    lengths::all(&rt)?;
     entries::all(&rt)?;
     windows::all(&rt)?;
     windows::eight_ones(&rt)?;

@@ -1,59 +1,102 @@
 // The flat and the sine window, as they are and with a change.
-use crate::{line, test};
-use counting::count;
-use mdct_lent::case;
-use mdct_tests::refuse::refuse;
-use mdct_tests::windows;
-use std::io;
-use std::io::Print;
+ghost use Rattle.std.specs.Prelude.{◌≡◌, ◌*◌, ◌≤◌};
 
-// A window by its kind, with a change, after the text that says so.
-fn window(
-    rt: &impl Print,
-    kind: usize,
-    sine: bool,
-    change: usize,
-    at: usize,
-    number: u32,
-) -> io::Result<()> {
-    let mut test = test::nothing_wrong();
-    test.sine = sine;
-    test.change = change;
-    test.at = at;
-    test.number = number;
-    line::every(rt, kind, test)
+use answers::Refusal;
+use counting::cases::{Place, at_every_size};
+use counting::lines::Unchanged;
+use mdct_lent::case::{Case, Change, Shape};
+use mdct_tests::refuse::refused;
+use mdct_tests::windows::tested;
+use std::io;
+
+// The change of a window, for any N.
+#[derive(Clone, Copy, Debug, PartialEq)]
+enum Changed {
+    Nothing,
+    OneMore(Place),
+    Ones,
+}
+
+// A window with that change.
+fn case_of(shape: Shape, changed: Changed, n: usize) -> Case
+    requires { (1 ≤ n) × (n ≤ 1024) }
+    ensures size { result.n ≡ n }
+    ensures lengths { (result.first.entries ≡ n) × (result.second.entries ≡ n) × (result.third.entries ≡ n) × (result.window.entries ≡ 2 * n) × (result.scratch.entries ≡ 2 * n) }
+{
+    let change = match changed {
+        Changed::Nothing => None,
+        Changed::OneMore(place) => Some(Change::OneMore(place.of(2 * n))),
+        Changed::Ones => Some(Change::Ones),
+    };
+    Case {
+        shape,
+        change,
+        ..Case::of_size(n)
+    }
 }
 
 pub fn all(rt: &impl Print) -> io::Result<()> {
-    print::text(rt, b"Windows, at every N.\n")?;
-    print::text(rt, b"Test of the flat window: ")?;
-    window(rt, 2, false, 0, 0, 0)?;
-    print::text(rt, b"Test of the sine window: ")?;
-    window(rt, 2, true, 0, 0, 0)?;
-    print::text(rt, b"Test of the flat window, the first entry one more: ")?;
-    window(rt, 2, false, 1, 0, 4)?;
-    print::text(rt, b"Test of the sine window, the last entry one more: ")?;
-    window(rt, 2, true, 1, 2, 4)?;
-    print::text(rt, b"Test of ones: ")?;
-    window(rt, 2, true, 2, 0, 4)?;
-    print::text(rt, b"The flat window, the first entry one more: ")?;
-    window(rt, 0, false, 1, 0, 4)?;
-    print::text(rt, b"The flat window, a middle entry one more: ")?;
-    window(rt, 0, false, 1, 1, 4)?;
-    print::text(rt, b"The sine window, the last entry one more: ")?;
-    window(rt, 0, true, 1, 2, 4)?;
-    print::text(rt, b"Ones: ")?;
-    window(rt, 0, true, 2, 0, 4)
+    let reason = Refusal::Window;
+    let first = Changed::OneMore(Place::First);
+    let middle = Changed::OneMore(Place::Middle);
+    let last = Changed::OneMore(Place::Last);
+    println!(rt; "Windows, at every N.")?;
+    for (what, shape, changed, right) in [
+        ("the flat window", Shape::Flat, Changed::Nothing, Ok(())),
+        ("the sine window", Shape::Sine, Changed::Nothing, Ok(())),
+        (
+            "the flat window, the first entry one more",
+            Shape::Flat,
+            first,
+            Err(reason),
+        ),
+        (
+            "the sine window, the last entry one more",
+            Shape::Sine,
+            last,
+            Err(reason),
+        ),
+        ("ones", Shape::Sine, Changed::Ones, Err(reason)),
+    ] {
+        let tally = at_every_size(2, |n| tested(case_of(shape, changed, n), right));
+        println!(rt; "Test of {what}: {}", Unchanged { tally, right })?;
+    }
+    for (what, shape, changed) in [
+        (
+            "The flat window, the first entry one more",
+            Shape::Flat,
+            first,
+        ),
+        (
+            "The flat window, a middle entry one more",
+            Shape::Flat,
+            middle,
+        ),
+        (
+            "The sine window, the last entry one more",
+            Shape::Sine,
+            last,
+        ),
+        ("Ones", Shape::Sine, Changed::Ones),
+    ] {
+        let tally = at_every_size(2, |n| refused(case_of(shape, changed, n), reason));
+        let right = Err(reason);
+        println!(rt; "{what}: {}", Unchanged { tally, right })?;
+    }
+    Ok(())
 }
 
 // Document 01's figures (k) and (l): eight times 499122177, which is the flat window for blocks of 4, is accepted, and eight ones are not.
 pub fn eight_ones(rt: &impl Print) -> io::Result<()> {
-    let mut case = case::right(4);
-    case.sine = false;
-    print::text(rt, b"N = 4, the flat window, eight times 499122177: ")?;
-    print::refused(rt, windows::test(case), 0)?;
-    case.change = 2;
-    case.number = 4;
-    print::text(rt, b"N = 4, eight ones: ")?;
-    print::refused(rt, count::together(windows::test(case), refuse(case)), 4)
+    let right = Ok(());
+    let tally = tested(case_of(Shape::Flat, Changed::Nothing, 4), right);
+    println!(rt;
+        "N = 4, the flat window, eight times 499122177: {}",
+        Unchanged { tally, right }
+    )?;
+    let ones = case_of(Shape::Flat, Changed::Ones, 4);
+    let reason = Refusal::Window;
+    let right = Err(reason);
+    let tally = tested(ones, right) + refused(ones, reason);
+    println!(rt; "N = 4, eight ones: {}", Unchanged { tally, right })
 }

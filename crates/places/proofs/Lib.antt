@@ -1,3 +1,3 @@
 pub mod Places
 pub mod Walked
-pub mod Halved
+pub mod Shifted

@@ -13,16 +13,11 @@ pub fn further(at: usize, more: usize, turn: usize) -> usize
     if next < turn { next } else { next - turn }
 }
 
-// How many entries of a table of 8,192 make up 1/(8n) of a turn: 1024/n, halved as often as n was doubled, since n is a power of two.
+// How many entries of a table of 8,192 make up 1/(8n) of a turn: 1024/n. With n = 2^m, which ends in m noughts in base two, that is 1024 shifted by m places.
+#[tactic(auto, using(crate::proofs::Shifted::shifted))]
 pub fn unit(n: usize) -> usize
     requires { Doubled n }
     ensures { result * n ≡ 1024 }
 {
-    let mut units = 1024;
-    let mut length = 1;
-    while length < n {
-        units /= 2;
-        length *= 2;
-    }
-    units
+    1024 >> n.trailing_zeros()
 }

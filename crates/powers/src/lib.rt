@@ -1,11 +1,11 @@
 // The constant table of the powers of g, the root of order 8192 (document 01, "Two arithmetics"): entry k is g^k mod p.
-// One function hands it out. A caller takes it once and lends it down, since each call copies all of it.
+// It is lent (`table`), or copied for a caller who wants one of his own (`powers`).
 #![tactic(auto)]
 
 ghost use Rattle.std.specs.Prelude.{◌≡◌};
 ghost use Rattle.sums.specs.Residue.{powers_table};
 
-const POWERS: [u32; 8192] = [
+static POWERS: [u32; 8192] = [
     1, 350007156, 63912897, 155587090, 584193783, 552846700, 866943752, 385851419, 258648936,
     947517534, 453476764, 51788757, 141599897, 848665159, 285738081, 805540444, 166035806,
     868061858, 758578306, 333763807, 761216117, 815714095, 409919473, 954080842, 394389327,
@@ -1024,8 +1024,14 @@ const POWERS: [u32; 8192] = [
     129292727, 358024708,
 ];
 
+pub fn table() -> &'static [u32; 8192]
+    ensures { result.now ≡ powers_table 8192 }
+{
+    &POWERS
+}
+
 pub fn powers() -> [u32; 8192]
     ensures { result ≡ powers_table 8192 }
 {
-    POWERS
+    *table()
 }

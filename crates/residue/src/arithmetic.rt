@@ -1,5 +1,6 @@
 // The arithmetic of residues. Each function takes residues and gives the one residue that its promise names.
 // A sum or a difference is compared and corrected: products alone are reduced.
+// A residue stays a u32 that is said to be below p: customers lend slices of u32, and a type of its own would have to be built entry by entry.
 ghost use Rattle.std.specs.Prelude.{◌≡◌, ◌+◌, ◌*◌, ◌%◌, ◌<◌};
 ghost use Rattle.sums.specs.Residue.{p, half, minus_one};
 

@@ -4,19 +4,20 @@
 use mathlib.Core.Path.{◌≡◌, sym, ◌∙◌, ap}
 use mathlib.Core.List.{List}
 use Prim.Native.Nat.{ℕ}
-use Rattle.answers.specs.declared.Answer.{Answer}
+use Rattle.std.specs.Prelude.{Result}
+use Rattle.answers.specs.declared.Refusal.{Refusal}
 use Rattle.answers.specs.Said.{Said, says, said_number}
 use Rattle.answers.proofs.Apart.{says_apart}
 use Rattle.sums.specs.Call.{Outcome, outcome, Spread, spread}
 use Rattle.sums.specs.Returned.{Returned, ReturnedSpread, ReturnedAnswer}
 
 -- a call that stores nothing
-pub answer_only : {a b : Answer} {promised : Said} → says a ≡ promised → says b ≡ promised → a ≡ b
+pub answer_only : {a b : Result (Unit {0}) Refusal} {promised : Said} → says a ≡ promised → says b ≡ promised → a ≡ b
 answer_only {a} {b} one other = says_apart a b (one ∙ sym other)
 
 module _ {A : Type 0} where
   -- a call that writes one slice and its scratch
-  pub outcome_only : {a b : Answer} {buffer buffer' scratch scratch' : List A} {promised : Outcome A}
+  pub outcome_only : {a b : Result (Unit {0}) Refusal} {buffer buffer' scratch scratch' : List A} {promised : Outcome A}
       → outcome (says a) buffer scratch ≡ promised → outcome (says b) buffer' scratch' ≡ promised
       → (a ≡ b) × (buffer ≡ buffer') × (scratch ≡ scratch')
   outcome_only {a} {b} one other =
@@ -27,7 +28,7 @@ module _ {A : Type 0} where
       )
 
   -- a call that writes two slices and its scratch
-  pub spread_only : {a b : Answer} {first first' second second' scratch scratch' : List A} {promised : Spread A}
+  pub spread_only : {a b : Result (Unit {0}) Refusal} {first first' second second' scratch scratch' : List A} {promised : Spread A}
       → spread (says a) first second scratch ≡ promised → spread (says b) first' second' scratch' ≡ promised
       → (a ≡ b) × (first ≡ first') × (second ≡ second') × (scratch ≡ scratch')
   spread_only {a} {b} one other =

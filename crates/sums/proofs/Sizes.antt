@@ -1,11 +1,12 @@
 -- The sizes of document 01: `one_of` holds of the entries of a list that is given by its rule (one_of_tab, tab_one_of), so that `allowed_size least`
--- allows exactly the powers of two from `least` to 1024, and `exponent_of` is their exponent (exponent_of_is, allowed_power). From 2 on they are even
+-- allows exactly the powers of two from `least` to 1024, and `exponent_of` is their exponent (exponent_of_is, allowed_power), also of 2048 (exponent_of_power). From 2 on they are even
 -- (allowed_even). A later beginning allows no more (allowed_sooner). Assumes nothing.
 use mathlib.Core.Bool.{Bool, true, false, ◌||◌}
 use mathlib.Core.Logic.{◌⊎◌, inl, inr, ⊎_elim}
 use mathlib.Core.Path.{◌≡◌, refl, sym, ◌∙◌, ap, ap₂}
 use Prim.Native.Nat.{ℕ, zero, suc, ◌^◌, ◌%◌, ◌<◌, ◌≤◌}
 use native.Mathlib.Nat.{not-suc-le-zero, le_of_suc-le-suc, pow-zero, pow-suc}
+use native.Mathlib.Decide.{dec_lt}
 use native.Mathlib.Omega.{arith}
 use lib.Dec.{T, leb, leb→le, le→leb, eqb, eqb→eq, eqb_refl}
 use lib.Pow.{pow_mono, pow_pos}
@@ -81,6 +82,18 @@ unfolding exponent_of powers_of_two
 exponent_of_is n m small is =
     ap (λ (i : ℕ). first_place (eqb i) (tab 11 (λ k. 2 ^ k))) is
     ∙ place_in_tab 11 (λ k. 2 ^ k) m (omega arith) (λ i below same. omega (arith, pow_mono below, pow-suc 2 i, pow_pos i))
+
+-- 2048 stands behind the powers that a size may be, at the place 11
+past_all : exponent_of 2048 ≡ 11
+unfolding exponent_of powers_of_two first_place tab
+past_all = refl
+
+pub exponent_of_power : (n m : ℕ) → m ≤ 11 → n ≡ 2 ^ m → exponent_of n ≡ m
+exponent_of_power n m small is =
+    elim (dec_lt m 11) [
+      | yes below ↦ exponent_of_is n m (omega arith) is
+      | no above ↦ let eleven : 11 ≡ m = omega arith in ap exponent_of (is ∙ ap (λ (k : ℕ). 2 ^ k) (sym eleven)) ∙ past_all ∙ eleven
+    ]
 
 pub allowed_power : (least n : ℕ) → T (allowed_size least n) → (exponent_of n ≤ 10) × (n ≡ 2 ^ exponent_of n)
 allowed_power least n t =

@@ -1,17 +1,68 @@
 // The eight calls. Each promises, for every input, its answer and what both lent slices then hold, by one definition: `naive_call` or `fast_call` of its routine.
-ghost use Rattle.std.specs.Prelude.{◌≡◌};
+// C lends the two tables side by side. So do these, which test both lengths first; an accepted call makes `Entries` or `Tables` of them.
+ghost use Rattle.std.specs.Prelude.{◌≡◌, length};
 ghost use Rattle.answers.specs.Said.{says};
+ghost use Rattle.ring.specs.Part.{cleared};
 ghost use Rattle.sums.specs.Call.{outcome};
 ghost use Rattle.algorithms.specs.Naive.{naive_dct2, naive_dst2, naive_dct3, naive_dst3};
 ghost use Rattle.algorithms.specs.Fast.{dct2_fast, dst2_fast, dct3_fast, dst3_fast};
-ghost use Rattle.floats.specs.Arithmetic.{float_ops};
+ghost use Rattle.floats.specs.Accepted.{NaiveAccepted, FastAccepted};
+ghost use Rattle.floats.specs.Arithmetic.{float_zero, float_ops, table_twiddles};
 ghost use Rattle.floats.specs.Call.{naive_call, fast_call};
-ghost use Rattle.type2and3_plans_float.specs.Routine.{naive_by, fast_by};
+ghost use Rattle.type2and3_plans.specs.Routine.{naive_by, fast_by};
 
-use answers::Answer;
-use type2and3_plans_float::{Transform, fast, naive};
+use answers::Refusal;
+use naive_sums::circle::Entries;
+use places::unit;
+use split::twiddles::Tables;
+use type2and3_plans::{Transform, fast, naive};
+
+// An accepted naive call: an entry of a table is 1/(4n) of a turn.
+fn run_naive(
+    which: Transform,
+    n: usize,
+    cosines: &[f64],
+    sines: &[f64],
+    buffer: &mut [f64],
+    scratch: &mut [f64],
+)
+    requires { NaiveAccepted n (length cosines.now) (length sines.now) (length buffer.old) (length scratch.old) }
+    ensures { (buffer.new ≡ naive_by which float_ops (table_twiddles cosines.now sines.now) buffer.old)
+        × (scratch.new ≡ cleared float_zero n scratch.old) }
+{
+    let cosines = Entries { table: cosines };
+    let sines = Entries { table: sines };
+    naive::transform(which, cosines, sines, 1, buffer, scratch);
+}
+
+// An accepted fast call: a unit is 1/(4n) of a turn.
+fn run_fast(
+    which: Transform,
+    n: usize,
+    cosines: &[f64],
+    sines: &[f64],
+    buffer: &mut [f64],
+    scratch: &mut [f64],
+)
+    requires { FastAccepted 1 n (length cosines.now) (length sines.now) (length buffer.old) (length scratch.old) }
+    ensures { (buffer.new ≡ fast_by which float_ops (table_twiddles cosines.now sines.now) buffer.old)
+        × (scratch.new ≡ cleared float_zero n scratch.old) }
+{
+    let unit = 2 * unit(n);
+    fast::transform(
+        which,
+        Tables {
+            cosines,
+            sines,
+            unit,
+        },
+        buffer,
+        scratch,
+    );
+}
 
 // The tests of a naive call, and where they are passed the transform.
+#[tactic(auto, using(lending_float::proofs::Accepted::naive_accepted))]
 fn call_naive(
     which: Transform,
     n: usize,
@@ -19,23 +70,16 @@ fn call_naive(
     sines: &[f64],
     buffer: &mut [f64],
     scratch: &mut [f64],
-) -> Answer
-    ensures { outcome (says result) buffer.new scratch.new ≡ naive_call (naive_by which) n cosines.now sines.now buffer.old scratch.old }
+) -> Result<(), Refusal>
+    ensures { outcome (says result) buffer.new scratch.new ≡ naive_call (naive_by which float_ops) n cosines.now sines.now buffer.old scratch.old }
 {
-    let answer = lending_float::naive_answer(
-        n,
-        cosines.len(),
-        sines.len(),
-        buffer.len(),
-        scratch.len(),
-    );
-    if let Answer::Done = answer {
-        naive::transform(which, n, cosines, sines, buffer, scratch);
-    }
-    answer
+    lending_float::naive_answer(n, cosines.len(), sines.len(), buffer.len(), scratch.len())?;
+    run_naive(which, n, cosines, sines, buffer, scratch);
+    Ok(())
 }
 
 // The tests of a fast call, and where they are passed the transform.
+#[tactic(auto, using(lending_float::proofs::Accepted::fast_accepted))]
 fn call_fast(
     which: Transform,
     n: usize,
@@ -43,21 +87,19 @@ fn call_fast(
     sines: &[f64],
     buffer: &mut [f64],
     scratch: &mut [f64],
-) -> Answer
-    ensures { outcome (says result) buffer.new scratch.new ≡ fast_call 1 (fast_by which) n cosines.now sines.now buffer.old scratch.old }
+) -> Result<(), Refusal>
+    ensures { outcome (says result) buffer.new scratch.new ≡ fast_call 1 (fast_by which float_ops) n cosines.now sines.now buffer.old scratch.old }
 {
-    let answer = lending_float::fast_answer(
+    lending_float::fast_answer(
         1,
         n,
         cosines.len(),
         sines.len(),
         buffer.len(),
         scratch.len(),
-    );
-    if let Answer::Done = answer {
-        fast::transform(which, n, cosines, sines, buffer, scratch);
-    }
-    answer
+    )?;
+    run_fast(which, n, cosines, sines, buffer, scratch);
+    Ok(())
 }
 
 // DCT-II term by term.
@@ -67,7 +109,7 @@ pub fn dct2_naive(
     sines: &[f64],
     buffer: &mut [f64],
     scratch: &mut [f64],
-) -> Answer
+) -> Result<(), Refusal>
     ensures { outcome (says result) buffer.new scratch.new ≡ naive_call (naive_dct2 float_ops) n cosines.now sines.now buffer.old scratch.old }
 {
     call_naive(Transform::Dct2, n, cosines, sines, buffer, scratch)
@@ -80,7 +122,7 @@ pub fn dct2_fast(
     sines: &[f64],
     buffer: &mut [f64],
     scratch: &mut [f64],
-) -> Answer
+) -> Result<(), Refusal>
     ensures { outcome (says result) buffer.new scratch.new ≡ fast_call 1 (dct2_fast float_ops) n cosines.now sines.now buffer.old scratch.old }
 {
     call_fast(Transform::Dct2, n, cosines, sines, buffer, scratch)
@@ -93,7 +135,7 @@ pub fn dst2_naive(
     sines: &[f64],
     buffer: &mut [f64],
     scratch: &mut [f64],
-) -> Answer
+) -> Result<(), Refusal>
     ensures { outcome (says result) buffer.new scratch.new ≡ naive_call (naive_dst2 float_ops) n cosines.now sines.now buffer.old scratch.old }
 {
     call_naive(Transform::Dst2, n, cosines, sines, buffer, scratch)
@@ -106,7 +148,7 @@ pub fn dst2_fast(
     sines: &[f64],
     buffer: &mut [f64],
     scratch: &mut [f64],
-) -> Answer
+) -> Result<(), Refusal>
     ensures { outcome (says result) buffer.new scratch.new ≡ fast_call 1 (dst2_fast float_ops) n cosines.now sines.now buffer.old scratch.old }
 {
     call_fast(Transform::Dst2, n, cosines, sines, buffer, scratch)
@@ -119,7 +161,7 @@ pub fn dct3_naive(
     sines: &[f64],
     buffer: &mut [f64],
     scratch: &mut [f64],
-) -> Answer
+) -> Result<(), Refusal>
     ensures { outcome (says result) buffer.new scratch.new ≡ naive_call (naive_dct3 float_ops) n cosines.now sines.now buffer.old scratch.old }
 {
     call_naive(Transform::Dct3, n, cosines, sines, buffer, scratch)
@@ -132,7 +174,7 @@ pub fn dct3_fast(
     sines: &[f64],
     buffer: &mut [f64],
     scratch: &mut [f64],
-) -> Answer
+) -> Result<(), Refusal>
     ensures { outcome (says result) buffer.new scratch.new ≡ fast_call 1 (dct3_fast float_ops) n cosines.now sines.now buffer.old scratch.old }
 {
     call_fast(Transform::Dct3, n, cosines, sines, buffer, scratch)
@@ -145,7 +187,7 @@ pub fn dst3_naive(
     sines: &[f64],
     buffer: &mut [f64],
     scratch: &mut [f64],
-) -> Answer
+) -> Result<(), Refusal>
     ensures { outcome (says result) buffer.new scratch.new ≡ naive_call (naive_dst3 float_ops) n cosines.now sines.now buffer.old scratch.old }
 {
     call_naive(Transform::Dst3, n, cosines, sines, buffer, scratch)
@@ -158,7 +200,7 @@ pub fn dst3_fast(
     sines: &[f64],
     buffer: &mut [f64],
     scratch: &mut [f64],
-) -> Answer
+) -> Result<(), Refusal>
     ensures { outcome (says result) buffer.new scratch.new ≡ fast_call 1 (dst3_fast float_ops) n cosines.now sines.now buffer.old scratch.old }
 {
     call_fast(Transform::Dst3, n, cosines, sines, buffer, scratch)

@@ -1,1 +1,2 @@
-pub mod Sum
+pub mod Lent
+pub mod Routine

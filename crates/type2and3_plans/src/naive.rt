@@ -1,34 +1,48 @@
-// type2and3_naive.rs over residues, in place: every output is its sum of n terms. What is required here, the tests of a call have shown.
-ghost use Rattle.std.specs.Prelude.{◌≡◌, length};
+// type2and3_naive.rs, in place: the buffer is copied to scratch, the sums are written over it, and scratch is cleared. What is required here, the tests of a call have shown.
+ghost use Rattle.std.specs.Prelude.{◌≡◌, ◌≤◌, length};
 ghost use Rattle.ring.specs.Part.{cleared};
-ghost use Rattle.lending.specs.Accepted.{Accepted};
-ghost use Rattle.naive_residue.specs.Ready.{Ready};
-ghost use Rattle.type2and3_plans.specs.Sum.{sum_by};
+ghost use Rattle.naive_sums.specs.Ready.{Ready};
+ghost use Rattle.type2and3_plans.specs.Routine.{naive_by, twiddles_of};
 
 use crate::Transform;
-use naive_residue::type2and3_naive;
-use places::unit;
+use naive_sums::circle::Circle;
+use naive_sums::type2and3_naive;
+use numbers::{Number, clear};
 
-// The sum of the transform that is asked for, from one slice into another.
-fn sums(which: Transform, table: &[u32], unit: usize, x: &[u32], out: &mut [u32])
-    requires { Ready 4 unit table.now x.now out.old }
-    ensures { out.new ≡ sum_by which x.now }
+// The sums of the transform that is asked for, from one slice into another. A match, for the reason that `fast::split` has.
+fn sums<T: Number, C: Circle<T>, S: Circle<T>>(
+    which: Transform,
+    cosines: C,
+    sines: S,
+    unit: usize,
+    x: &[T],
+    out: &mut [T],
+)
+    requires { Ready T.ops T.Fits C.turn C.sound cosines 4 unit x.now out.old × Ready T.ops T.Fits S.turn S.sound sines 4 unit x.now out.old }
+    ensures { out.new ≡ naive_by which T.ops (twiddles_of (C.reads cosines) (S.reads sines)) x.now }
 {
     match which {
-        Transform::Dct2 => type2and3_naive::dct2(table, unit, x, out),
-        Transform::Dst2 => type2and3_naive::dst2(table, unit, x, out),
-        Transform::Dct3 => type2and3_naive::dct3(table, unit, x, out),
-        Transform::Dst3 => type2and3_naive::dst3(table, unit, x, out),
+        Transform::Dct2 => type2and3_naive::dct2(cosines, unit, x, out),
+        Transform::Dst2 => type2and3_naive::dst2(sines, unit, x, out),
+        Transform::Dct3 => type2and3_naive::dct3(cosines, unit, x, out),
+        Transform::Dst3 => type2and3_naive::dst3(sines, unit, x, out),
     }
 }
 
-// An accepted call: the buffer is copied to scratch, the sums are written over it, and scratch is cleared.
-pub fn transform(which: Transform, n: usize, buffer: &mut [u32], scratch: &mut [u32])
-    requires { Accepted 1 n buffer.old (length scratch.old) }
-    ensures { (buffer.new ≡ sum_by which buffer.old) × (scratch.new ≡ cleared 0 n scratch.old) }
+// `unit` places of either table make up 1/(4n) of a turn, for a buffer of n entries.
+pub fn transform<T: Number, C: Circle<T>, S: Circle<T>>(
+    which: Transform,
+    cosines: C,
+    sines: S,
+    unit: usize,
+    buffer: &mut [T],
+    scratch: &mut [T],
+)
+    requires { Ready T.ops T.Fits C.turn C.sound cosines 4 unit buffer.old buffer.old × Ready T.ops T.Fits S.turn S.sound sines 4 unit buffer.old buffer.old × (length buffer.old ≤ length scratch.old) }
+    ensures { (buffer.new ≡ naive_by which T.ops (twiddles_of (C.reads cosines) (S.reads sines)) buffer.old) × (scratch.new ≡ cleared T.ops.nought (length buffer.old) scratch.old) }
 {
-    lending::copy(buffer, scratch);
-    let table = powers::powers();
-    sums(which, &table, 2 * unit(n), &scratch[0..n], buffer);
-    lending::clear(scratch, n);
+    let n = buffer.len();
+    scratch[..n].copy_from_slice(buffer);
+    sums(which, cosines, sines, unit, &scratch[..n], buffer);
+    clear(scratch, n);
 }

@@ -5,15 +5,12 @@ ghost use Rattle.sums.specs.Call.{outcome, in_place};
 ghost use Rattle.sums.specs.Transform.{times_half_length};
 
 use crate::calls;
-use answers::Answer;
+use answers::Refusal;
 
 // DCT-II and, where it is done, DCT-III, both by split radix.
-pub fn dct2_and_back(n: usize, buffer: &mut [u32], scratch: &mut [u32]) -> Answer
+pub fn dct2_and_back(n: usize, buffer: &mut [u32], scratch: &mut [u32]) -> Result<(), Refusal>
     ensures { outcome (says result) buffer.new scratch.new ≡ in_place 1 times_half_length n buffer.old scratch.old }
 {
-    let there = calls::dct2_fast(n, buffer, scratch);
-    if let Answer::Done = there {
-        return calls::dct3_fast(n, buffer, scratch);
-    }
-    there
+    calls::dct2_fast(n, buffer, scratch)?;
+    calls::dct3_fast(n, buffer, scratch)
 }

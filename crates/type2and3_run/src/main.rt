@@ -2,23 +2,26 @@
 // No count is known beforehand: each comes from a call's answer or from a comparison of entries.
 #![tactic(auto)]
 
+use crate::transform::Transform;
+use in_place_tests::suite::Suite;
 use std::io;
 
 mod accept;
-mod call;
-mod order;
-mod refuse;
 mod tests;
+mod transform;
 
 fn main(rt: HostRuntime) -> io::Result<()> {
-    print::text(
-        &rt,
-        b"DCT-II, DST-II, DCT-III and DST-III over residues, each naive and fast: eight calls. N = 1, 2, 4, .., 1024.\n",
+    let suite = Suite {
+        calls: &Transform::ALL,
+        least: 1,
+    };
+    println!(rt;
+        "DCT-II, DST-II, DCT-III and DST-III over residues, each naive and fast: eight calls. N = 1, 2, 4, .., 1024."
     )?;
-    tests::agreement(&rt)?;
-    tests::round_trip(&rt)?;
-    tests::sizes(&rt)?;
-    tests::lengths(&rt)?;
-    tests::residues(&rt)?;
-    order::all(&rt)
+    tests::agreement(&rt, &suite)?;
+    tests::round_trip(&rt, &suite)?;
+    tests::sizes(&rt, &suite)?;
+    suite.lengths(&rt)?;
+    tests::residues(&rt, &suite)?;
+    tests::order(&rt, &suite)
 }

@@ -1,209 +1,121 @@
 // What is run, and the lines that say so. N goes over 1, 2, 4, .., 1024 where no size is named.
-ghost use Rattle.std.specs.Prelude.{◌≤◌};
-
 use crate::accept::{agree, back};
-use crate::refuse::{Case, refuse};
-use counting::count;
+use crate::transform::Transform;
+use answers::Refusal;
+use counting::cases::{P, Place, SIZES, Value};
 use counting::count::Tally;
+use counting::entries::Entry;
+use counting::lines::Accepted;
+use in_place_tests::case::Case;
+use in_place_tests::suite::Suite;
 use std::io;
-use std::io::Print;
 
-const P: u32 = 998244353;
+// The first entry is the largest residue.
+const FIRST: Entry = Entry {
+    place: 0,
+    value: P - 1,
+};
 
-fn accepted(rt: &impl Print, tally: Tally, outputs: &[u8]) -> io::Result<()> {
-    print::accepted(
-        rt,
+fn agreed(tally: Tally) -> Accepted<'static> {
+    Accepted {
         tally,
-        outputs,
-        b" entries of scratch are as they should be\n",
-    )
+        outputs: "outputs are the same by both",
+        lent: "entries of scratch are as they should be",
+    }
 }
 
-// The naive and the fast calls at every N, after the text that says on what. Where `place` is one of the buffer's, p - 1 stands there.
-fn agreement_of(rt: &impl Print, what: &[u8], place: usize) -> io::Result<()> {
-    print::text(rt, what)?;
-    let mut n = 1;
-    while n <= 1024 {
-        print::size(rt, n)?;
-        accepted(
-            rt,
-            agree(n, 5, place, P - 1),
-            b" outputs are the same by both; ",
-        )?;
-        n = 2 * n;
+pub fn agreement(rt: &impl Print, suite: &Suite<'_, Transform>) -> io::Result<()> {
+    for (what, told) in [
+        (
+            "Naive and fast on the same residues, as if by chance. Scratch has N + 5 entries.",
+            None,
+        ),
+        (
+            "The same, the first of them p - 1 and from N = 2 on a middle one 0.",
+            Some(FIRST),
+        ),
+    ] {
+        println!(rt; "{what}")?;
+        for n in SIZES {
+            let tally = agree(n, n + 5, told);
+            println!(rt; "N = {n}: {}", agreed(tally))?;
+        }
     }
     Ok(())
 }
 
-pub fn agreement(rt: &impl Print) -> io::Result<()> {
-    agreement_of(
-        rt,
-        b"Naive and fast on the same residues, as if by chance. Scratch has N + 5 entries.\n",
-        usize::MAX,
-    )?;
-    agreement_of(
-        rt,
-        b"The same, the first of them p - 1 and from N = 2 on a middle one 0.\n",
-        0,
-    )
-}
-
-pub fn round_trip(rt: &impl Print) -> io::Result<()> {
-    print::text(
-        rt,
-        b"Type 3 of type 2, cosine and sine, naive and fast. Scratch has N entries.\n",
-    )?;
-    let mut n = 1;
-    while n <= 1024 {
-        print::size(rt, n)?;
-        accepted(rt, back(n), b" outputs are N/2 times the input; ")?;
-        n = 2 * n;
+pub fn round_trip(rt: &impl Print, suite: &Suite<'_, Transform>) -> io::Result<()> {
+    println!(rt; "Type 3 of type 2, cosine and sine, naive and fast. Scratch has N entries.")?;
+    for n in SIZES {
+        let line = Accepted {
+            tally: back(n, FIRST),
+            outputs: "outputs are N/2 times the input",
+            lent: "entries of scratch are as they should be",
+        };
+        println!(rt; "N = {n}: {line}")?;
     }
     Ok(())
 }
 
-// A size that is not allowed. All else is in order where slices can be so long.
-fn size(rt: &impl Print, n: usize, buffer: usize, scratch: usize) -> io::Result<()>
-    requires { (buffer ≤ 2048) × (scratch ≤ 2048) }
-{
-    print::size(rt, n)?;
-    print::refused(
-        rt,
-        refuse(Case {
-            n: n,
-            buffer: buffer,
-            scratch: scratch,
-            place: 0,
-            value: P - 1,
-            number: 1,
-        }),
-        1,
-    )
-}
-
-pub fn sizes(rt: &impl Print) -> io::Result<()> {
-    print::text(rt, b"Sizes.\n")?;
-    print::size(rt, 1024)?;
-    accepted(
-        rt,
-        agree(1024, 0, 0, P - 1),
-        b" outputs are the same by both; ",
-    )?;
-    size(rt, 2048, 2048, 2048)?;
-    size(rt, 0, 0, 5)?;
-    size(rt, 3, 3, 3)?;
-    size(rt, 1023, 1023, 1023)?;
-    size(rt, 1025, 1025, 1025)?;
-    size(rt, usize::MAX, 2048, 2048)
-}
-
-// The five kinds of wrong length.
-fn wrong_length(kind: usize, n: usize) -> Case
-    requires { (1 ≤ n) × (n ≤ 1024) }
-    ensures { (result.buffer ≤ 2048) × (result.scratch ≤ 2048) }
-{
-    let mut case = Case {
-        n: n,
-        buffer: n,
-        scratch: n,
-        place: 0,
-        value: P - 1,
-        number: 2,
-    };
-    match kind {
-        0 => case.buffer = n - 1,
-        1 => case.buffer = n + 1,
-        2 => case.buffer = 0,
-        3 => case.scratch = n - 1,
-        _ => case.scratch = 0,
+// Sizes that are not allowed. All else is in order where slices can be so long.
+pub fn sizes(rt: &impl Print, suite: &Suite<'_, Transform>) -> io::Result<()> {
+    println!(rt; "Sizes.")?;
+    let tally = agree(1024, 1024, Some(FIRST));
+    println!(rt; "N = 1024: {}", agreed(tally))?;
+    let right = Err(Refusal::Size);
+    for case in [
+        Case::of_size(2048, right),
+        Case::of_size(0, right).with_scratch(5),
+        Case::of_size(3, right),
+        Case::of_size(1023, right),
+        Case::of_size(1025, right),
+        Case::of_size(2048, right).with_size(usize::MAX),
+    ] {
+        suite.line(rt, &format_args!("N = {}", case.n), case)?;
     }
-    case
+    Ok(())
 }
 
-// The first, a middle and the last place.
-fn place(kind: usize, n: usize) -> usize
-    requires { 1 ≤ n }
-{
-    match kind {
-        0 => 0,
-        1 => n / 2,
-        _ => n - 1,
+pub fn residues(rt: &impl Print, suite: &Suite<'_, Transform>) -> io::Result<()> {
+    suite.residues(rt)?;
+    for place in Place::ALL {
+        let tally = suite.at_every_size(|n| {
+            let told = Entry::of(place, Value::LargestResidue, n);
+            agree(n, n, Some(told))
+        });
+        println!(rt; "{place} is p - 1: {}", agreed(tally))?;
     }
+    Ok(())
 }
 
-// An entry that is no residue.
-fn no_residue(kind: usize, value: u32, n: usize) -> Case
-    requires { (1 ≤ n) × (n ≤ 1024) }
-    ensures { (result.buffer ≤ 2048) × (result.scratch ≤ 2048) }
-{
-    Case {
-        n: n,
-        buffer: n,
-        scratch: n,
-        place: place(kind, n),
-        value: value,
-        number: 3,
+// Several reasons at once: the first of 1, 2 and 3 is given.
+pub fn order(rt: &impl Print, suite: &Suite<'_, Transform>) -> io::Result<()> {
+    let zero = Entry { place: 3, value: 0 };
+    let no_residue = Entry { place: 3, value: P };
+    let size = Case::of_size(12, Err(Refusal::Size)).with_entry(no_residue);
+    let length = Case::of_size(16, Err(Refusal::Length)).with_entry(no_residue);
+    println!(rt; "Several reasons at once.")?;
+    for (what, case) in [
+        ("N = 12, a buffer of 11 with p in it", size.with_buffer(11)),
+        (
+            "N = 12, a buffer of 11",
+            size.with_buffer(11).with_entry(zero),
+        ),
+        (
+            "N = 12, scratch of 11",
+            size.with_scratch(11).with_entry(zero),
+        ),
+        ("N = 12, p in the buffer", size),
+        (
+            "N = 16, a buffer of 17 with p in it",
+            length.with_buffer(17),
+        ),
+        (
+            "N = 16, scratch of 15, p in the buffer",
+            length.with_scratch(15),
+        ),
+    ] {
+        suite.line(rt, &what, case)?;
     }
-}
-
-// What is run at a size, by the number that the calls should answer: at 2 they have a wrong length, at 3 an entry that is no residue, and else one that is.
-fn run(number: u32, kind: usize, value: u32, n: usize) -> Tally
-    requires { (1 ≤ n) × (n ≤ 1024) }
-{
-    match number {
-        2 => refuse(wrong_length(kind, n)),
-        3 => refuse(no_residue(kind, value, n)),
-        _ => agree(n, 0, place(kind, n), value),
-    }
-}
-
-fn every(number: u32, kind: usize, value: u32) -> Tally {
-    let mut sum = count::nothing();
-    let mut n = 1;
-    while n <= 1024 {
-        sum = count::together(sum, run(number, kind, value, n));
-        n = 2 * n;
-    }
-    sum
-}
-
-fn length(rt: &impl Print, what: &[u8], kind: usize) -> io::Result<()> {
-    print::text(rt, what)?;
-    print::refused(rt, every(2, kind, 0), 2)
-}
-
-pub fn lengths(rt: &impl Print) -> io::Result<()> {
-    print::text(rt, b"Lengths, at every N.\n")?;
-    length(rt, b"Buffer one short: ", 0)?;
-    length(rt, b"Buffer one long: ", 1)?;
-    length(rt, b"Buffer empty: ", 2)?;
-    length(rt, b"Scratch one short: ", 3)?;
-    length(rt, b"Scratch empty: ", 4)
-}
-
-fn entry(rt: &impl Print, what: &[u8], kind: usize, value: u32) -> io::Result<()> {
-    print::text(rt, what)?;
-    print::refused(rt, every(3, kind, value), 3)
-}
-
-fn largest_residue(rt: &impl Print, what: &[u8], kind: usize) -> io::Result<()> {
-    print::text(rt, what)?;
-    accepted(
-        rt,
-        every(0, kind, P - 1),
-        b" outputs are the same by both; ",
-    )
-}
-
-pub fn residues(rt: &impl Print) -> io::Result<()> {
-    print::text(rt, b"One entry of the buffer, at every N.\n")?;
-    entry(rt, b"The first is p: ", 0, P)?;
-    entry(rt, b"A middle one is p: ", 1, P)?;
-    entry(rt, b"The last is p: ", 2, P)?;
-    entry(rt, b"The first is 4294967295: ", 0, u32::MAX)?;
-    entry(rt, b"A middle one is 4294967295: ", 1, u32::MAX)?;
-    entry(rt, b"The last is 4294967295: ", 2, u32::MAX)?;
-    largest_residue(rt, b"The first is p - 1: ", 0)?;
-    largest_residue(rt, b"A middle one is p - 1: ", 1)?;
-    largest_residue(rt, b"The last is p - 1: ", 2)
+    Ok(())
 }

@@ -4,10 +4,3 @@
 #![tactic(auto)]
 
 pub mod calls;
-
-// The transforms of type 4.
-#[derive(Clone, Copy)]
-enum Transform {
-    Dct4,
-    Dst4,
-}

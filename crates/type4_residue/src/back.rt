@@ -5,15 +5,12 @@ ghost use Rattle.sums.specs.Call.{outcome, in_place};
 ghost use Rattle.sums.specs.Transform.{times_half_length};
 
 use crate::calls;
-use answers::Answer;
+use answers::Refusal;
 
 // DCT-IV and, where it is done, DCT-IV again.
-pub fn dct4_twice(n: usize, buffer: &mut [u32], scratch: &mut [u32]) -> Answer
+pub fn dct4_twice(n: usize, buffer: &mut [u32], scratch: &mut [u32]) -> Result<(), Refusal>
     ensures { outcome (says result) buffer.new scratch.new ≡ in_place 2 times_half_length n buffer.old scratch.old }
 {
-    let there = calls::dct4_fast(n, buffer, scratch);
-    if let Answer::Done = there {
-        return calls::dct4_fast(n, buffer, scratch);
-    }
-    there
+    calls::dct4_fast(n, buffer, scratch)?;
+    calls::dct4_fast(n, buffer, scratch)
 }

@@ -2,21 +2,23 @@
 // No count is known beforehand: each comes from a call's answer or from a comparison of entries.
 #![tactic(auto)]
 
+use crate::transform::Transform;
+use in_place_tests::suite::Suite;
 use std::io;
 
-mod call;
-mod refuse;
 mod tests;
+mod transform;
 mod twice;
 
 fn main(rt: HostRuntime) -> io::Result<()> {
-    print::text(
-        &rt,
-        b"DCT-IV and DST-IV over residues: two calls. N = 2, 4, 8, .., 1024.\n",
-    )?;
-    tests::round_trip(&rt)?;
-    tests::sizes(&rt)?;
-    tests::lengths(&rt)?;
-    tests::residues(&rt)?;
-    tests::order(&rt)
+    let suite = Suite {
+        calls: &Transform::ALL,
+        least: 2,
+    };
+    println!(rt; "DCT-IV and DST-IV over residues: two calls. N = 2, 4, 8, .., 1024.")?;
+    tests::round_trip(&rt, &suite)?;
+    tests::sizes(&rt, &suite)?;
+    suite.lengths(&rt)?;
+    tests::residues(&rt, &suite)?;
+    tests::order(&rt, &suite)
 }

@@ -1,54 +1,48 @@
--- A loop that doubles a size from 1 up to n = 2^m and multiplies a value by a factor each time: the value is then the first one times the factor's m-th power. Assumes nothing.
+-- A value that is multiplied by a factor again and again: at first (scaled_none) and once more (scaled_more). An allowed size is 2^m with as many noughts at the end
+-- (doublings). Assumes nothing.
+use mathlib.Core.Bool.{Bool, true, false}
 use mathlib.Core.Path.{◌≡◌, sym, ◌∙◌, ap}
-use Prim.Native.Nat.{ℕ, suc, ◌*◌, ◌^◌, ◌%◌, ◌<◌, ◌≤◌}
+use Prim.Native.Nat.{ℕ, ◌+◌, ◌*◌, ◌^◌, ◌%◌, ◌<◌}
 use native.Mathlib.Nat as Nat
+use native.Mathlib.Numerals.{add-one}
 use native.Mathlib.Omega.{arith}
-use lib.Dec.{T}
-use lib.Pow.{pow_mono, pow_pos}
-use Rattle.sums.proofs.Sizes.{allowed_exponent, allowed_small, allowed_power, exponent_of_is}
+use lib.Count.{count_trailing_zeros}
+use lib.Dec.{T, leb, eqb, eqb→eq}
+use Rattle.ring.specs.Finite.{tab, all_below, first_place}
+use Rattle.ring.proofs.Below.{all_below_at, both_right}
 use Rattle.ring.proofs.Modular.{mod_mul}
 use Rattle.sums.specs.Residue.{p}
-use Rattle.sums.specs.Size.{allowed_size, exponent_of}
+use Rattle.sums.specs.Size.{one_of, powers_of_two, power_of_two, allowed_size, exponent_of}
+use Rattle.sums.proofs.Sizes.{allowed_small}
 
--- the size is 2^k, and the value was multiplied k times
-pub record Scaled (n first factor size value : ℕ) : Type 0 where
-  pub times : ℕ
-  pub power : size ≡ 2 ^ times
-  pub within : size ≤ n
-  pub is : value ≡ first * factor ^ times % p
+pub scaled_none : (first factor : ℕ) → first < p → first ≡ first * factor ^ 0 % p
+scaled_none first factor below =
+    sym (ap (λ (x : ℕ). first * x % p) (Nat.pow-zero factor) ∙ ap (λ (x : ℕ). x % p) (Nat.mul-one first) ∙ Nat.mod-eq_of_lt below)
 
--- of two powers of two, the smaller has the smaller exponent
-smaller : (k m : ℕ) → 2 ^ k < 2 ^ m → k < m
-smaller k m l = Nat.lt_of_not-le (λ above. omega (arith, pow_mono above))
+pub scaled_more : (first factor k value : ℕ) → value ≡ first * factor ^ k % p → value * factor % p ≡ first * factor ^ (k + 1) % p
+scaled_more first factor k value is =
+    ap (λ (x : ℕ). x * factor % p) is ∙ mod_mul (first * factor ^ k) factor p
+    ∙ ap (λ (x : ℕ). x % p) (Nat.mul_assoc first (factor ^ k) factor ∙ ap (λ (x : ℕ). first * x) (sym (Nat.pow-suc factor k)))
+    ∙ ap (λ (m : ℕ). first * factor ^ m % p) (sym (add-one k))
 
-module _ (n first factor : ℕ) (allowed : T (allowed_size 2 n)) where
-  pub scaled_none : first < p → Scaled n first factor 1 first
-  scaled_none below = record {
-    times = 0;
-    power = sym (Nat.pow-zero 2);
-    within = omega (arith, (allowed_exponent 2 n allowed).3);
-    is = sym (ap (λ (x : ℕ). first * x % p) (Nat.pow-zero factor) ∙ ap (λ (x : ℕ). x % p) (Nat.mul-one first) ∙ Nat.mod-eq_of_lt below);
-  }
+-- what is to hold of the powers of two
+abbrev if_so : Bool → Bool → Bool
+if_so true b = b
+if_so false b = true
 
-  module _ {size value : ℕ} (s : Scaled n first factor size value) where
-    pub scaled_positive : 0 < size
-    scaled_positive = omega (arith, s.power, pow_pos s.times)
+held : (a b : Bool) → T (if_so a b) → T a → T b
+held true b t s = t
+held false b t s = absurd s
 
-    pub scaled_more : {value' : ℕ} → size < n → value' ≡ value * factor % p → Scaled n first factor (size * 2) value'
-    scaled_more below next =
-        let whole = (allowed_power 2 n allowed).1 in
-        let less : s.times < exponent_of n = smaller s.times (exponent_of n) (omega (arith, s.power, whole)) in
-        let regroup : first * factor ^ s.times * factor ≡ first * (factor ^ s.times * factor) = Nat.mul_assoc first (factor ^ s.times) factor in
-        record {
-          times = suc s.times;
-          power = ap (λ (x : ℕ). x * 2) s.power ∙ sym (Nat.pow-suc 2 s.times);
-          within = omega (arith, s.power, whole, pow_mono less, Nat.pow-suc 2 s.times);
-          is = next ∙ ap (λ (x : ℕ). x * factor % p) s.is ∙ mod_mul (first * factor ^ s.times) factor p
-              ∙ ap (λ (x : ℕ). x % p) (regroup ∙ ap (λ (x : ℕ). first * x) (sym (Nat.pow-suc factor s.times)));
-        }
+-- each number below 1025 is tried
+tried : T (all_below 1025 (λ n. if_so (power_of_two n) (eqb (count_trailing_zeros 64 n) (exponent_of n))))
+unfolding all_below power_of_two powers_of_two one_of tab exponent_of first_place count_trailing_zeros
+tried = tt
 
-    pub scaled_all : n ≤ size → value ≡ first * factor ^ exponent_of n % p
-    scaled_all past =
-        let whole : n ≡ 2 ^ s.times = omega (arith, s.within, s.power) in
-        let small : s.times < 11 = smaller s.times 11 (omega (arith, whole, allowed_small 2 n allowed)) in
-        s.is ∙ ap (λ (m : ℕ). first * factor ^ m % p) (sym (exponent_of_is n s.times (omega arith) whole))
+pub doublings : (n : ℕ) → T (allowed_size 2 n) → count_trailing_zeros 64 n ≡ exponent_of n
+unfolding allowed_size
+doublings n allowed =
+    eqb→eq (count_trailing_zeros 64 n) (exponent_of n)
+    (held (power_of_two n) (eqb (count_trailing_zeros 64 n) (exponent_of n))
+    (all_below_at 1025 (λ m. if_so (power_of_two m) (eqb (count_trailing_zeros 64 m) (exponent_of m))) tried n (omega (arith, allowed_small 2 n allowed)))
+    (both_right (leb 2 n) (power_of_two n) allowed))

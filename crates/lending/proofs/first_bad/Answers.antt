@@ -1,17 +1,15 @@
-use native.Mathlib.Omega.{arith}
-use borrow.Author.Count.{below_more}
-use Rattle.lending.proofs.Bad.{first_bad_only}
+-- `lending::first_bad` meets its contract: what the search finds is what is promised. Assumes nothing.
+use Prim.Native.Nat.{◌≤◌, ◌<◌}
+use borrow.Author.Tests.{tests}
+use Rattle.std.proofs.Common.{rules}
+use Rattle.std.proofs.lemmas.Iterator.{IsFirst-from_position, YieldsList-from_slice}
+use Rattle.sums.specs.Residue.{p}
+use Rattle.lending.proofs.Bad.{found_is}
 use Rattle.lending.proofs.first_bad.Goals as goal
-
-pub returns-then-entries-i-ge-P : goal.returns-then-entries-i-ge-P
-returns-then-entries-i-ge-P c =
-    let inv = c.loop-i.invariant in
-    first_bad_only _ _ inv.0 inv.1 (λ l. omega arith)
-
-pub loop-i-preserved : goal.loop-i-preserved
-loop-i-preserved c = (omega arith, below_more _ _ c.loop-i.invariant.1 c.if-entries-i-ge-P.false)
 
 pub returns : goal.returns
 returns c =
-    let inv = c.loop-i.invariant in
-    first_bad_only _ _ inv.0 inv.1 (λ l. omega arith)
+    found_is c.args.entries.now c.position.result
+    (IsFirst-from_position _ _ _ (λ y. p ≤ y) (λ y. y < p) c.position.ensures.ran (YieldsList-from_slice c.args.entries.now cc)
+    (λ y q k. search (rules, tests))
+    (λ y q k. search (rules, tests)))

@@ -1,28 +1,20 @@
--- `float_words::words::same` meets its contract: only NaN differs from itself, and the bits of any other float are its own. Assumes nothing.
-use mathlib.Core.Path.{sym, ap, ◌∙◌, subst}
-use borrow.Author.Tests.{eqb-true, eq-eqb}
-use lib.Dec.{T}
+-- `float_words::words::same` meets its contract: what it returns is `alike`, by the cases of its tests. Assumes nothing.
+use mathlib.Core.Path.{◌≡◌}
+use lib.Dec.{eqb}
 use lib.Ieee.{binary64, to_bits}
-use Rattle.float_words.proofs.Bits.{nan_only, no_nan, bits_only}
+use Rattle.std.proofs.Common.{rules}
+use Rattle.float_words.specs.Words.{alike}
+use Rattle.float_words.proofs.Bits.{alike_only}
 use Rattle.float_words.proofs.words.same.Goals as goal
 
-pub returns-then-a : goal.returns-then-a
-returns-then-a c =
-    let a-nan = nan_only _ c.if-a.true in
-    (λ b-differs. a-nan ∙ sym (nan_only _ b-differs), λ equal. rw (← equal) c.if-a.true)
+pub returns-then-is_nan-clause-exact : goal.returns-then-is_nan-clause-exact
+unfolding alike
+returns-then-is_nan-clause-exact c =
+    let value : c.is_nan-then-is_nan.result ≡ alike c.args.a c.args.b = search rules in
+    rw value (alike_only _ _ c.well_formed.0.1 c.well_formed.1.0.1)
 
-pub returns-then-b : goal.returns-then-b
-returns-then-b c =
-    (λ never. absurd (subst T (sym never) tt), λ equal. sym c.if-a.false ∙ rw equal c.if-b.true)
-
-pub float_to_bits-result : goal.float_to_bits-result
-float_to_bits-result c = no_nan _ c.if-a.false
-
-pub float_to_bits-result-2 : goal.float_to_bits-result-2
-float_to_bits-result-2 c = no_nan _ c.if-b.false
-
-pub returns : goal.returns
-returns c = (
-  λ alike. bits_only _ _ c.well_formed.0.1 c.well_formed.1.0.1 (eqb-true _ _ alike),
-  λ equal. eq-eqb _ _ (ap (to_bits binary64) equal),
-)
+pub returns-then-not-is_nan-clause-exact : goal.returns-then-not-is_nan-clause-exact
+unfolding alike
+returns-then-not-is_nan-clause-exact c =
+    let value : eqb (to_bits binary64 c.args.a) (to_bits binary64 c.args.b) ≡ alike c.args.a c.args.b = search rules in
+    rw value (alike_only _ _ c.well_formed.0.1 c.well_formed.1.0.1)

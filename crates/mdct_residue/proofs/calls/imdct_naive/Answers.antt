@@ -1,24 +1,9 @@
--- `mdct_residue::calls::imdct_naive` meets its contract: where the answer is `Done` the tests were passed and both outputs are added to; else nothing was changed. Assumes nothing.
-use Rattle.mdct_answers.proofs.Accepted.{imdct_accepted, imdct_done, imdct_refused}
-use Rattle.mdct_residue.proofs.Unneeded.{none_needed, none_cleared}
+-- `mdct_residue::calls::imdct_naive` meets its contract: where the answer is `Ok` the tests were passed. Assumes nothing.
+use Rattle.mdct_answers.proofs.Accepted.{imdct_accepted}
+use Rattle.mdct_residue.proofs.Unneeded.{none_needed}
 use Rattle.mdct_residue.proofs.calls.imdct_naive.Goals as goal
 
 pub imdct-requires : goal.imdct-requires
 imdct-requires c =
     let a = c.args in
-    search (none_needed, imdct_accepted _ _ a.input.now a.first.now a.second.now a.window.now _ c.imdct_answer-answer.ensures c.in-Done.is)
-
-pub returns-in-Done : goal.returns-in-Done
-returns-in-Done c =
-    let a = c.args in
-    imdct_done 0 a.n a.input.now a.first.now a.second.now a.window.now a.scratch.now c.imdct_answer-answer.ensures
-    c.in-Done.is
-    c.imdct.ensures.0
-    c.imdct.ensures.1
-    (none_cleared a.n a.scratch.now)
-
--- refused only where that is promised
-pub returns-in_default : goal.returns-in_default
-returns-in_default c =
-    let a = c.args in
-    imdct_refused 0 a.n a.input.now a.first.now a.second.now a.window.now a.scratch.now c.imdct_answer-answer.ensures _ c.in_default.is
+    search (none_needed, imdct_accepted _ _ a.input.now a.first.now a.second.now a.window.now _ c.in_ok-imdct_answer.ensures)

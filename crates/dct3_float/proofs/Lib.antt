@@ -1,2 +1,0 @@
-pub mod Leaf
-pub mod Inner

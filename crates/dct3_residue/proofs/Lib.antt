@@ -1,4 +1,0 @@
-pub mod Leaf
-pub mod Joined
-pub mod Inner
-pub mod Room

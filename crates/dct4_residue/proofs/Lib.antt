@@ -1,2 +1,0 @@
-pub mod Halves
-pub mod Inner

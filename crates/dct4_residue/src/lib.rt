@@ -1,6 +1,0 @@
-// DCT-IV and DST-IV over residues by a DCT-III and a DST-III of half the length (type4_convert_to_type3.rs), in place with scratch of as many entries.
-// All are inner functions: what one requires, its caller shows. Nothing is refused here.
-#![tactic(auto)]
-
-pub mod steps;
-pub mod type4_convert_to_type3;

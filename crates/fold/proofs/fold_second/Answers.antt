@@ -1,0 +1,6 @@
+use Rattle.std.proofs.Common.{arith}
+use Rattle.ring.proofs.Filled.{filled_all}
+use Rattle.fold.proofs.fold_second.Goals as goal
+
+pub returns : goal.returns
+returns g c = rw c.requires.1 at (filled_all c.loop-i.invariant (omega (arith, c.loop-i.auto.out, c.requires.1, c.loop-i-test.false)))

@@ -1,2 +1,0 @@
-pub mod OneReduction
-pub mod Room

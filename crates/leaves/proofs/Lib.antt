@@ -1,0 +1,3 @@
+pub mod Short
+pub mod Changed
+pub mod Sums

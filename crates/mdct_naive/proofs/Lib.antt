@@ -1,0 +1,4 @@
+pub mod Numbers
+pub mod Segment
+pub mod Gathered
+pub mod Added

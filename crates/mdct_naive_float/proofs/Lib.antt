@@ -1,3 +1,0 @@
-pub mod Segment
-pub mod Gathered
-pub mod Added

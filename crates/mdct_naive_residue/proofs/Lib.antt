@@ -1,5 +1,0 @@
-pub mod Windowed
-pub mod Listed
-pub mod Segments
-pub mod Accepted
-pub mod Outputs

@@ -1,2 +1,0 @@
-pub mod AngleSums
-pub mod Ready

@@ -1,6 +1,0 @@
-pub mod Places
-pub mod Summed
-pub mod Listed
-pub mod Sums
-pub mod Room
-pub mod Parts

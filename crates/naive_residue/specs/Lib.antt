@@ -1,3 +1,0 @@
-pub mod AngleSums
-pub mod Ready
-pub mod Added

@@ -1,0 +1,5 @@
+pub mod Turns
+pub mod Listed
+pub mod Sums
+pub mod Residues
+pub mod Entries

@@ -1,0 +1,4 @@
+pub mod Circled
+pub mod Circles
+pub mod AngleSums
+pub mod Ready

@@ -1,0 +1,4 @@
+pub mod Served
+pub mod Ready
+pub mod Tabled
+pub mod Serving

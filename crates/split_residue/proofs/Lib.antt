@@ -1,4 +1,0 @@
-pub mod OneReduction
-pub mod Halves
-pub mod Parts
-pub mod Reduced
