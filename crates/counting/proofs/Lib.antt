@@ -1,3 +1,4 @@
 pub mod Compared
 pub mod Products
 pub mod Zeros
+pub mod Sizes

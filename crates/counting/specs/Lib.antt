@@ -3,3 +3,4 @@ pub mod Lent
 pub mod Added
 pub mod Printed
 pub mod Cases
+pub mod Sizes

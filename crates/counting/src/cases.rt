@@ -1,6 +1,7 @@
 // What the tests vary: the size, the place of an entry that is told, and what stands there.
 ghost use Rattle.std.specs.Prelude.{◌≡◌, ℕ, ◌≤◌};
 ghost use Rattle.counting.specs.Cases.{place_in, number_of};
+ghost use Rattle.counting.specs.Sizes.{sizes_from, SumsUp};
 
 use crate::count::Tally;
 use std::fmt;
@@ -11,10 +12,13 @@ pub const SIZES: [usize; 11] = [1, 2, 4, 8, 16, 32, 64, 128, 256, 512, 1024];
 // What a test counts at every size that is no less than the least.
 pub fn at_every_size<F: Fn(usize) -> Tally>(least: usize, test: F) -> Tally
     requires { (n : ℕ) → least ≤ n → 1 ≤ n → n ≤ 1024 → F.pre test n }
+    ensures { SumsUp (F.post test) (sizes_from least) result }
 {
     let mut sum = Tally::default();
-    for n in SIZES.into_iter().filter(|n| least <= *n) {
-        sum += test(n);
+    for n in SIZES {
+        if least <= n {
+            sum += test(n);
+        }
     }
     sum
 }

@@ -22,7 +22,8 @@ pub fn dct3<T: Number, W: Leaves<T>>(by: W, x: &mut [T], s: &mut [T])
     }
 }
 
-// Of 4q entries.
+// Of 4q entries. Not inlined, so that the short transforms, which most calls are for, are done where they are called.
+#[inline(never)]
 #[cycle(dct3)]
 fn step<T: Number, W: Leaves<T>>(by: W, q: usize, x: &mut [T], s: &mut [T])
     requires { Step T.ops T.Fits W.serves by q x.old s.old }

@@ -1,11 +1,13 @@
 // What is replayed, and the lines that say so.
+use crate::WORDS;
+use arrayvec::ArrayVec;
 use counting::count::Tally;
 use counting::lines::Accepted;
 use float_replay::cases;
 use float_words::file;
 use float_words::file::{TABLES, TURN, Tables};
 use float_words::routine::Routine;
-use float_words::words::words_of;
+use float_words::words::push_words;
 use std::io;
 use std::io::Print;
 
@@ -33,10 +35,12 @@ fn total(rt: &impl Print, sum: Tally) -> io::Result<()> {
     println!(rt; "words {words} differences {differences}")
 }
 
-pub fn replay(rt: &(impl Print + AllocGlobal), bytes: &[u8]) -> io::Result<()> {
-    let words = words_of(rt.alloc(), bytes)?;
-    let mut cosines = vec![in rt.alloc(); 0.0; TURN]?;
-    let mut sines = vec![in rt.alloc(); 0.0; TURN]?;
+pub fn replay(rt: &impl Print, bytes: &[u8]) -> io::Result<()> {
+    // Nothing on the heap: a replay can't fail but in what it prints.
+    let mut words = ArrayVec::<u64, WORDS>::new();
+    push_words(&mut words, bytes);
+    let mut cosines = [0.0; TURN];
+    let mut sines = [0.0; TURN];
     file::load_tables(&words, &mut cosines, &mut sines);
     let tables = Tables {
         cosines: &cosines,

@@ -7,11 +7,14 @@ mod lines;
 use std::io;
 use std::io::Input;
 
-// As much of the input as is replayed.
+// As much of the input as is replayed, in bytes and in words.
 const LIMIT: usize = 131072;
 
+const WORDS: usize = LIMIT / 8;
+
 fn main(rt: HostRuntime) -> io::Result<()> {
-    let mut bytes = vec![in rt.alloc(); 0u8; LIMIT]?;
+    // An array, since a `Vec` could fail.
+    let mut bytes = [0u8; LIMIT];
     let mut reader = rt.reader();
     let read = input::read_full(&mut reader, &mut bytes)?;
     lines::replay(&rt, &bytes[..read])

@@ -1,26 +1,26 @@
 // A recorded file as words of eight bytes, the least byte first, and the floats whose bits they are.
-ghost use Rattle.std.specs.Prelude.{◌≡◌, ◌≤◌, ◌↔◌, length, map, IfOk, IsTrue};
+ghost use Rattle.std.specs.Prelude.{◌≡◌, ◌+◌, ◌-◌, ◌*◌, ◌≤◌, ◌↔◌, ◌++◌, length, map, take, IsTrue};
 ghost use Rattle.std.specs.Float.{binary64};
 ghost use Rattle.std.specs.Float.Ieee.{nan_bits};
+ghost use Rattle.arrayvec.specs.ArrayVec.{array_vec_len};
 ghost use Rattle.float_words.specs.Words.{words_of, float_of, alike};
 
 use arrayvec::ArrayVec;
-use std::alloc::{AllocError, Global};
 
 // The bit of a float's sign, and the least of the eleven bits of its exponent.
 const SIGN: u64 = 1 << 63;
 
 const EXPONENT: u64 = 1 << 52;
 
-// All whole words of a file, in its order.
-pub fn words_of(alloc: Global, bytes: &[u8]) -> Result<Vec<u64>, AllocError>
-    ensures { IfOk result (λ words. words.items ≡ words_of bytes.now) }
+// Puts the whole words of a file behind those that are there, in its order, as many as there is room for.
+pub fn push_words<const N: usize>(words: &mut ArrayVec<u64, N>, bytes: &[u8])
+    ensures first { words.new.items ≡ words.old.items ++ take (N - array_vec_len words.old) (words_of bytes.now) }
+    ensures all { 8 * array_vec_len words.old + length bytes.now ≤ 8 * N → words.new.items ≡ words.old.items ++ words_of bytes.now }
 {
-    let (words, _rest) = bytes.as_chunks();
-    words
-        .iter()
-        .map(|word| u64::from_le_bytes(*word))
-        .collect(alloc)
+    let (chunks, _rest) = bytes.as_chunks();
+    for word in chunks.iter().take(words.remaining_capacity()) {
+        words.push(u64::from_le_bytes(*word));
+    }
 }
 
 // The patterns of a NaN: all bits of the exponent are set, and not all below them are clear.

@@ -1,5 +1,6 @@
 // What a call is told and lent, and what it should answer.
-ghost use Rattle.std.specs.Prelude.{◌≡◌, ◌≢◌, ◌≤◌, ◌<◌, ◌⊎◌};
+ghost use Rattle.std.specs.Prelude.{◌≡◌, ◌≢◌, ◌≤◌, ◌<◌, ◌⊎◌, []};
+ghost use Rattle.answers.specs.Said.{says, refused};
 ghost use Rattle.counting.specs.Cases.{place_in, number_of};
 
 use answers::Refusal;
@@ -77,7 +78,7 @@ impl Case {
     pub fn of_length(wrong: WrongLength, n: usize) -> Case
         requires { (1 ≤ n) × (n ≤ 1024) }
         ensures wrong { (result.buffer ≢ result.n) ⊎ (result.scratch < result.n) }
-        ensures right { (result.n ≡ n) × (result.right ≡ Err Refusal.Length) }
+        ensures right { (result.n ≡ n) × (says result.right ≡ refused 2 []) }
     {
         let case = Case::of_size(n, Err(Refusal::Length));
         match wrong {
@@ -93,7 +94,7 @@ impl Case {
     pub fn of_entry(place: Place, value: Value, n: usize) -> Case
         requires { (1 ≤ n) × (n ≤ 2048) }
         ensures entry { (result.entry.place ≡ place_in n place) × (result.entry.value ≡ number_of value) }
-        ensures right { (result.n ≡ n) × (result.right ≡ Err Refusal.Residue) }
+        ensures right { (result.n ≡ n) × (says result.right ≡ refused 3 []) }
     {
         Case::of_size(n, Err(Refusal::Residue)).with_entry(Entry::of(place, value, n))
     }

@@ -1,5 +1,6 @@
 // Calls that are tested together, and the lines that say what came of it.
 ghost use Rattle.std.specs.Prelude.{◌≤◌, ℕ};
+ghost use Rattle.counting.specs.Sizes.{sizes_from, SumsUp};
 
 use crate::call::Call;
 use crate::case::{Case, WrongLength};
@@ -35,6 +36,7 @@ impl<C: Call> Suite<'_, C> {
     // What a test counts at every size.
     pub fn at_every_size<F: Fn(usize) -> Tally>(&self, test: F) -> Tally
         requires { (n : ℕ) → 1 ≤ n → n ≤ 1024 → F.pre test n }
+        ensures { SumsUp (F.post test) (sizes_from self.now.least) result }
     {
         at_every_size(self.least, test)
     }

@@ -6,7 +6,8 @@ use split::twiddles::Tables;
 #[tactic(auto, using(crate::proofs::Short::by_terms))]
 impl Leaves<f64> for Tables<'_> {
     fn dct2_leaf(self, x: &mut [f64]) {
-        let Tables { cosines, unit, .. } = self;
+        let Tables { whole, unit } = self;
+        let cosines = whole.cosines;
         let nought = zero();
         match *x {
             [only] => x[0] = nought + only * cosines[0],
@@ -19,7 +20,8 @@ impl Leaves<f64> for Tables<'_> {
     }
 
     fn dst2_leaf(self, x: &mut [f64]) {
-        let Tables { sines, unit, .. } = self;
+        let Tables { whole, unit } = self;
+        let sines = whole.sines;
         let nought = zero();
         match *x {
             [only] => x[0] = nought + only * sines[unit],
@@ -33,7 +35,8 @@ impl Leaves<f64> for Tables<'_> {
 
     // A sum begins with half of the first entry.
     fn dct3_leaf(self, x: &mut [f64]) {
-        let Tables { cosines, unit, .. } = self;
+        let Tables { whole, unit } = self;
+        let cosines = whole.cosines;
         match *x {
             [only] => x[0] = halve(only),
             [first, second] => {
@@ -47,7 +50,8 @@ impl Leaves<f64> for Tables<'_> {
 
     // The last entry is halved.
     fn dst3_leaf(self, x: &mut [f64]) {
-        let Tables { sines, unit, .. } = self;
+        let Tables { whole, unit } = self;
+        let sines = whole.sines;
         let nought = zero();
         match *x {
             [only] => x[0] = nought + halve(only) * sines[unit],

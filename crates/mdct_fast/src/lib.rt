@@ -9,7 +9,7 @@ ghost use Rattle.mdct_fast.specs.Block.{MdctReady, ImdctReady};
 use dct4::type4_convert_to_type3::dct4;
 use fold::{fold, spread};
 use leaves::Leaves;
-use numbers::{Number, clear};
+use numbers::{Number, clear, copy};
 
 // MDCT of two segments: the DCT-IV of their fold.
 pub fn mdct<T: Number, W: Leaves<T>>(
@@ -46,7 +46,7 @@ pub fn imdct<T: Number, W: Leaves<T>>(
         × (scratch.new ≡ cleared T.ops.nought (2 * n) scratch.old) }
 {
     let (turned, inner) = scratch[..2 * n].split_at_mut(n);
-    turned.copy_from_slice(input);
+    copy(input, turned);
     dct4(by, turned, inner);
     spread(n / 2, turned, window, first, second);
     clear(scratch, 2 * n);

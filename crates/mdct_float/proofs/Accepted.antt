@@ -23,13 +23,13 @@ abbrev any : Float → Type 0
 any v = ⊤
 
 abbrev serves : Tables → ℕ → Type 0
-serves by n = TablesOf by.unit n by.cosines.now by.sines.now
+serves by n = TablesOf by.unit n by.whole.now.cosines.now by.whole.now.sines.now
 
 pub all : (x : List Float) → AllFit float_ops any x
 all x = record { each = λ k l. tt }
 
 pub block_ready : {by : Tables} {n k : ℕ} {a b c w : List Float}
-    → FastBlock n (length by.cosines.now) (length by.sines.now) (length a) (length b) (length c) (length w) k → by.unit * n ≡ 1024
+    → FastBlock n (length by.whole.now.cosines.now) (length by.whole.now.sines.now) (length a) (length b) (length c) (length w) k → by.unit * n ≡ 1024
     → Ready.Block float_ops any serves by n a b c w k
 block_ready {by} {n} {w = w} block units = record {
   served = record {

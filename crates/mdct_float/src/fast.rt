@@ -7,7 +7,7 @@ ghost use Rattle.floats.specs.Accepted.{FastBlock};
 ghost use Rattle.floats.specs.Arithmetic.{float_zero, float_ops, table_twiddles};
 
 use places::unit;
-use split::twiddles::Tables;
+use split::twiddles::{Tables, WholeTurn};
 
 pub fn mdct(
     n: usize,
@@ -24,11 +24,8 @@ pub fn mdct(
         × (scratch.new ≡ cleared float_zero (2 * n) scratch.old) }
 {
     let unit = unit(n);
-    let by = Tables {
-        cosines,
-        sines,
-        unit,
-    };
+    let whole = &WholeTurn { cosines, sines };
+    let by = Tables { whole, unit };
     mdct_fast::mdct(by, n, first, second, output, window, scratch);
 }
 
@@ -48,10 +45,7 @@ pub fn imdct(
         × (scratch.new ≡ cleared float_zero (2 * n) scratch.old) }
 {
     let unit = unit(n);
-    let by = Tables {
-        cosines,
-        sines,
-        unit,
-    };
+    let whole = &WholeTurn { cosines, sines };
+    let by = Tables { whole, unit };
     mdct_fast::imdct(by, n, input, first, second, window, scratch);
 }

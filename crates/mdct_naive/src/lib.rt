@@ -27,7 +27,7 @@ fn windowed_sum<T: Number, C: Circle<T>>(
 {
     let mut sum = begin;
     let mut at = first;
-    for (entry, weight) in x.iter().zip(window) {
+    for (entry, weight) in x.iter().zip(&window[..x.len()]) {
         sum = sum.added(entry.times(*weight), circle.at(at));
         at = further(at, step, circle.len());
     }

@@ -2,7 +2,7 @@
 #![tactic(auto)]
 
 ghost use Rattle.std.specs.Prelude.{◌≡◌, ◌≤◌, length};
-ghost use Rattle.ring.specs.Part.{cleared};
+ghost use Rattle.ring.specs.Part.{cleared, copied};
 ghost use Rattle.algorithms.specs.Ops.{Ops};
 ghost use Rattle.numbers.specs.Closed.{Closed, Plain};
 
@@ -81,4 +81,14 @@ pub fn clear<T: Number>(s: &mut [T], n: usize)
     ensures { s.new ≡ cleared T.ops.nought n s.old }
 {
     s[..n].fill(T::zero());
+}
+
+// Copies all of `from` over the first entries of `to`.
+pub fn copy<T: Number>(from: &[T], to: &mut [T])
+    requires { length from.now ≤ length to.old }
+    ensures { to.new ≡ copied from.now to.old }
+{
+    for i in 0..from.len() {
+        to[i] = from[i];
+    }
 }

@@ -46,7 +46,7 @@ impl Number for u32 {
     }
 
     fn added(self, a: u32, u: u32) -> u32 {
-        reduce((self as u64) + (a as u64) * (u as u64))
+        arithmetic::times_plus(self, a, u)
     }
 
     #[tactic(auto, using(crate::proofs::OneReduction::taken_once))]

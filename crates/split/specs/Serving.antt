@@ -52,6 +52,6 @@ sin_below k = Nat.mod-lt _ (omega arith)
 pub levels_served : Served (λ (a : ℕ). a < p) (λ (by : Levels). residue_twiddles) (λ by n. LevelsOf n by.table.now)
 levels_served = record { power = λ by n levels. levels_power levels; cos = λ by a b. cos_below _; sin = λ by a b. sin_below _ }
 
-pub tables_served : Served (λ (a : Float). ⊤) (λ (by : Tables). table_twiddles by.cosines.now by.sines.now)
-    (λ by n. TablesOf by.unit n by.cosines.now by.sines.now)
+pub tables_served : Served (λ (a : Float). ⊤) (λ (by : Tables). table_twiddles by.whole.now.cosines.now by.whole.now.sines.now)
+    (λ by n. TablesOf by.unit n by.whole.now.cosines.now by.whole.now.sines.now)
 tables_served = record { power = λ by n tables. tables_power tables; cos = λ by a b. tt; sin = λ by a b. tt }

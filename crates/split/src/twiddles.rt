@@ -65,27 +65,33 @@ impl Turns<u32> for Levels<'_> {
     }
 }
 
-// A table of cosines and one of sines, each of a whole turn, of which `unit` entries make up 1/(4n) of a turn at a length of n.
+// A table of cosines and one of sines, each of a whole turn.
 #[derive(Clone, Copy)]
-pub struct Tables<'a> {
+pub struct WholeTurn<'a> {
     pub cosines: &'a [f64],
     pub sines: &'a [f64],
+}
+
+// Two such tables, of which `unit` entries make up 1/(4n) of a turn at a length of n. They are lent together, so that a transform hands on two words and not five.
+#[derive(Clone, Copy)]
+pub struct Tables<'a> {
+    pub whole: &'a WholeTurn<'a>,
     pub unit: usize,
 }
 
 impl Turns<f64> for Tables<'_> {
-    ghost turn = { λ by. table_twiddles by.cosines.now by.sines.now };
+    ghost turn = { λ by. table_twiddles by.whole.now.cosines.now by.whole.now.sines.now };
 
-    ghost serves = { λ by n. TablesOf by.unit n by.cosines.now by.sines.now };
+    ghost serves = { λ by n. TablesOf by.unit n by.whole.now.cosines.now by.whole.now.sines.now };
 
     ghost served = { tables_served };
 
     fn cos(self, q: usize, i: usize) -> f64 {
-        self.cosines[(2 * i + 1) * self.unit]
+        self.whole.cosines[(2 * i + 1) * self.unit]
     }
 
     fn sin(self, q: usize, i: usize) -> f64 {
-        self.sines[(2 * i + 1) * self.unit]
+        self.whole.sines[(2 * i + 1) * self.unit]
     }
 
     #[tactic(auto, using(crate::proofs::Halves::tables_half))]

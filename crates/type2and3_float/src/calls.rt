@@ -14,7 +14,7 @@ ghost use Rattle.type2and3_plans.specs.Routine.{naive_by, fast_by};
 use answers::Refusal;
 use naive_sums::circle::Entries;
 use places::unit;
-use split::twiddles::Tables;
+use split::twiddles::{Tables, WholeTurn};
 use type2and3_plans::{Transform, fast, naive};
 
 // An accepted naive call: an entry of a table is 1/(4n) of a turn.
@@ -32,7 +32,7 @@ fn run_naive(
 {
     let cosines = Entries { table: cosines };
     let sines = Entries { table: sines };
-    naive::transform(which, cosines, sines, 1, buffer, scratch);
+    naive::in_place(which, cosines, sines, 1, buffer, scratch);
 }
 
 // An accepted fast call: a unit is 1/(4n) of a turn.
@@ -49,16 +49,9 @@ fn run_fast(
         × (scratch.new ≡ cleared float_zero n scratch.old) }
 {
     let unit = 2 * unit(n);
-    fast::transform(
-        which,
-        Tables {
-            cosines,
-            sines,
-            unit,
-        },
-        buffer,
-        scratch,
-    );
+    let whole = &WholeTurn { cosines, sines };
+    let by = Tables { whole, unit };
+    fast::in_place(which, by, buffer, scratch);
 }
 
 // The tests of a naive call, and where they are passed the transform.

@@ -1,2 +1,3 @@
 pub mod Lent
 pub mod Routine
+pub mod Sum

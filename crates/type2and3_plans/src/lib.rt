@@ -1,4 +1,4 @@
-// DCT-II, DST-II, DCT-III and DST-III over any numbers, in place: by their defining sums (`naive`) and by split radix (`fast`).
+// DCT-II, DST-II, DCT-III and DST-III over any numbers and over residues, in place: by their defining sums (`naive`) and by split radix (`fast`).
 // All are inner: what they require, the tests of a call have shown.
 #![tactic(auto)]
 

@@ -6,31 +6,20 @@ ghost use Rattle.answers.specs.Said.{says};
 ghost use Rattle.sums.specs.Call.{outcome, in_place};
 ghost use Rattle.sums.specs.Transform.{dct2_sum, dst2_sum, dct3_sum, dst3_sum};
 ghost use Rattle.lending.specs.Accepted.{Accepted};
-ghost use Rattle.type2and3_residue.specs.Sum.{sum_by};
+ghost use Rattle.type2and3_plans.specs.Sum.{sum_by};
 
 use crate::Plan;
 use answers::Refusal;
-use naive_sums::circle::{Cosines, Sines};
-use places::unit;
-use split::twiddles::Levels;
 use type2and3_plans::{Transform, fast, naive};
 
-// An accepted call, by either plan. A match: the two ask for different tables.
+// An accepted call, by either plan. A match, for the reason that `fast::split` of `type2and3_plans` has.
 fn run(plan: Plan, which: Transform, n: usize, buffer: &mut [u32], scratch: &mut [u32])
     requires { Accepted 1 n buffer.old (length scratch.old) }
     ensures { (buffer.new ≡ sum_by which buffer.old) × (scratch.new ≡ cleared 0 n scratch.old) }
 {
     match plan {
-        Plan::Naive => {
-            let powers = powers::table();
-            let cosines = Cosines { powers };
-            let sines = Sines { powers };
-            naive::transform(which, cosines, sines, 2 * unit(n), buffer, scratch);
-        }
-        Plan::Fast => {
-            let table = cosines::levels(n);
-            fast::transform(which, Levels { table }, buffer, scratch);
-        }
+        Plan::Naive => naive::transform(which, n, buffer, scratch),
+        Plan::Fast => fast::transform(which, n, buffer, scratch),
     }
 }
 

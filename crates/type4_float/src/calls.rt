@@ -13,7 +13,7 @@ ghost use Rattle.type4_plans.specs.Routine.{fast_by};
 use answers::Refusal;
 use lending_float::fast_answer;
 use places::unit;
-use split::twiddles::Tables;
+use split::twiddles::{Tables, WholeTurn};
 use type4_plans::{Transform, fast};
 
 // An accepted call: a unit is 1/(8n) of a turn, as a transform of type 4 turns by the angles of one of twice as many entries.
@@ -30,16 +30,9 @@ fn run(
         × (scratch.new ≡ cleared float_zero n scratch.old) }
 {
     let unit = unit(n);
-    fast::transform(
-        which,
-        Tables {
-            cosines,
-            sines,
-            unit,
-        },
-        buffer,
-        scratch,
-    );
+    let whole = &WholeTurn { cosines, sines };
+    let by = Tables { whole, unit };
+    fast::in_place(which, by, buffer, scratch);
 }
 
 // The tests, and where they are passed the transform.

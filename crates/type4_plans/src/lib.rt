@@ -1,4 +1,4 @@
-// DCT-IV and DST-IV over any numbers, in place, by a DCT-III and a DST-III of half the length (`fast`). It is inner: what it requires, the tests of a call
+// DCT-IV and DST-IV over any numbers and over residues, in place, by a DCT-III and a DST-III of half the length (`fast`). It is inner: what it requires, the tests of a call
 // have shown.
 #![tactic(auto)]
 

@@ -1,25 +1,13 @@
 // The two calls. Each promises, for every input, its answer and what both lent slices then hold, by one definition: `in_place` of its defining sum.
 // They are not one with those of `type4_float`: C has both, and these refuse by 3 as well, are lent no tables and promise the sums.
-ghost use Rattle.std.specs.Prelude.{◌≡◌, length};
-ghost use Rattle.ring.specs.Part.{cleared};
+ghost use Rattle.std.specs.Prelude.{◌≡◌};
 ghost use Rattle.answers.specs.Said.{says};
 ghost use Rattle.sums.specs.Call.{outcome, in_place};
 ghost use Rattle.sums.specs.Transform.{dct4_sum, dst4_sum};
-ghost use Rattle.lending.specs.Accepted.{Accepted};
-ghost use Rattle.type4_residue.specs.Sum.{sum_by};
+ghost use Rattle.type4_plans.specs.Sum.{sum_by};
 
 use answers::Refusal;
-use split::twiddles::Levels;
 use type4_plans::{Transform, fast};
-
-// An accepted call. A transform of type 4 turns by the angles of one of twice as many entries.
-fn run(which: Transform, n: usize, buffer: &mut [u32], scratch: &mut [u32])
-    requires { Accepted 2 n buffer.old (length scratch.old) }
-    ensures { (buffer.new ≡ sum_by which buffer.old) × (scratch.new ≡ cleared 0 n scratch.old) }
-{
-    let table = cosines::levels(2 * n);
-    fast::transform(which, Levels { table }, buffer, scratch);
-}
 
 // The tests, and where they are passed the transform.
 #[tactic(auto, using(lending::proofs::Accepted::in_place_accepted))]
@@ -27,7 +15,7 @@ fn call(which: Transform, n: usize, buffer: &mut [u32], scratch: &mut [u32]) -> 
     ensures { outcome (says result) buffer.new scratch.new ≡ in_place 2 (sum_by which) n buffer.old scratch.old }
 {
     lending::in_place_answer(2, n, buffer, scratch.len())?;
-    run(which, n, buffer, scratch);
+    fast::transform(which, n, buffer, scratch);
     Ok(())
 }
 

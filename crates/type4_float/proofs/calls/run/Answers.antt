@@ -8,8 +8,8 @@ use Rattle.type4_float.proofs.calls.run.Goals as goal
 pub unit-unit-requires : goal.unit-unit-requires
 unit-unit-requires c = size_doubled c.requires.size
 
-pub transform-requires : goal.transform-requires
-transform-requires c =
+pub in_place-requires : goal.in_place-requires
+in_place-requires c =
     let a = c.requires in
     record {
       served = record {
@@ -26,6 +26,6 @@ transform-requires c =
 
 pub returns : goal.returns
 returns c = (
-  c.transform.ensures.0,
-  c.transform.ensures.1 ∙ ap (λ (n : ℕ). cleared float_zero n c.args.scratch.now) c.requires.whole,
+  c.in_place.ensures.0,
+  c.in_place.ensures.1 ∙ ap (λ (n : ℕ). cleared float_zero n c.args.scratch.now) c.requires.whole,
 )

@@ -1,7 +1,7 @@
 -- What an accepted call may do: lend a table of cosines to the transform (accepted_served, accepted_numbers), which leaves the defining sum (fast_sum). Assumes nothing.
-use mathlib.Core.Path.{◌≡◌, sym, ◌∙◌, ap}
+use mathlib.Core.Path.{◌≡◌, ◌∙◌}
 use mathlib.Core.List.{List}
-use Prim.Native.Nat.{ℕ, suc, ◌+◌, ◌*◌, ◌^◌, ◌<◌, ◌≤◌}
+use Prim.Native.Nat.{ℕ, suc, ◌+◌, ◌*◌, ◌<◌, ◌≤◌}
 use native.Mathlib.Nat as Nat
 use native.Mathlib.Omega.{arith}
 use lib.Dec.{T}
@@ -18,7 +18,7 @@ use Rattle.split.specs.Tabled.{LevelsOf}
 use Rattle.type4_plans.specs.declared.Transform.{Transform}
 use Rattle.type4_plans.specs.declared.Transform.TheVariants.{Dct4, Dst4}
 use Rattle.type4_plans.specs.Routine.{fast_by}
-use Rattle.type4_residue.specs.Sum.{sum_by}
+use Rattle.type4_plans.specs.Sum.{sum_by}
 
 module _ {n k : ℕ} {buffer : List ℕ} (a : Accepted 2 n buffer k) where
   pub accepted_numbers : AllFit residue_ops (λ (r : ℕ). r < p) buffer

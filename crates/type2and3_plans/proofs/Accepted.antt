@@ -1,14 +1,14 @@
--- What an accepted call may do: ask for the unit of its length (accepted_doubled), lend the table of powers to the sums (accepted_cosines, accepted_sines), or a table of cosines to
--- split radix (accepted_lent). And either plan leaves the defining sum (fast_sum, naive_sum). Assumes nothing.
-use mathlib.Core.Path.{◌≡◌, refl, sym, ◌∙◌, ap, subst}
+-- What an accepted call may do: ask for the unit of its length (accepted_doubled), lend the table of powers to the sums (table_sound, table_whole), or a table of cosines to
+-- split radix (accepted_levels). And either plan leaves the defining sum (fast_sum, naive_sum). Assumes nothing.
+use mathlib.Core.Path.{◌≡◌, refl, sym, ◌∙◌, ap}
 use mathlib.Core.List.{List}
-use Prim.Native.Nat.{ℕ, ◌+◌, ◌*◌, ◌%◌, ◌<◌, ◌≤◌}
+use Prim.Native.Nat.{ℕ, ◌+◌, ◌*◌, ◌<◌, ◌≤◌}
 use native.Mathlib.Omega.{arith}
 use lib.Dec.{T}
 use lib.ListN.{length}
 use Rattle.sums.specs.Angle.{cos_turn, sin_turn}
 use Rattle.sums.specs.Cosines.{Cosines}
-use Rattle.sums.specs.Residue.{p, Residues, Powers, powers_table}
+use Rattle.sums.specs.Residue.{p, Powers, powers_table}
 use Rattle.sums.specs.Size.{allowed_size}
 use Rattle.sums.proofs.Powers.{powers_length, table_powers}
 use Rattle.sums.proofs.Sizes.{exponent_allowed}
@@ -24,7 +24,7 @@ use Rattle.split.specs.Tabled.{LevelsOf}
 use Rattle.type2and3_plans.specs.declared.Transform.{Transform}
 use Rattle.type2and3_plans.specs.declared.Transform.TheVariants.{Dct2, Dst2, Dct3, Dst3}
 use Rattle.type2and3_plans.specs.Routine.{fast_by, naive_by, twiddles_of}
-use Rattle.type2and3_residue.specs.Sum.{sum_by}
+use Rattle.type2and3_plans.specs.Sum.{sum_by}
 
 module _ {n k : ℕ} {buffer : List ℕ} (a : Accepted 1 n buffer k) where
   pub accepted_doubled : Doubled n
