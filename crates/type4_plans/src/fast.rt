@@ -49,10 +49,11 @@ pub fn transform(which: Transform, n: usize, buffer: &mut [u32], scratch: &mut [
     in_place(which, Levels { table }, buffer, scratch);
 }
 
-// DCT-IV for a caller who clears scratch himself: what its front then holds is not said.
+// DCT-IV for a caller who clears scratch himself: what its front then holds is not said, and what stands beyond is kept.
 pub fn dct4(n: usize, x: &mut [u32], s: &mut [u32])
     requires { Accepted 2 n x.old (length s.old) }
-    ensures { x.new ≡ dct4_sum x.old }
+    ensures sum { x.new ≡ dct4_sum x.old }
+    ensures beyond { cleared 0 n s.new ≡ cleared 0 n s.old }
 {
     let by = Levels {
         table: cosines::levels(2 * n),
